@@ -1,0 +1,36 @@
+-- The decimal text of a number, and 32 bits as a signed number. Assumes nothing.
+use mathlib.Core.Bool.{Bool, cond}
+use mathlib.Core.List.{List, [], _∷_, _++_}
+use Prim.Native.Nat.{ℕ, zero, suc, _+_, _-_, _*_, _/_, _%_, _^_}
+use Prim.Native.Char.{code}
+use lib.IntN.{ℤ, pos, negsuc}
+use lib.Dec.{ltb}
+
+-- the character of a digit
+abbrev pub digit : ℕ → ℕ
+digit d = code "0" + d
+
+-- the digits of n, highest first, if there are at most w + 1 of them
+unfoldable pub digits : (w : ℕ) → ℕ → List ℕ
+digits zero n = digit n ∷ []
+digits (suc w) n = cond (ltb n 10) (digit n ∷ []) (digits w (n / 10) ++ (digit (n % 10) ∷ []))
+
+-- a number has no more digits than its value and one
+unfoldable pub decimal : ℕ → List ℕ
+decimal n = digits n n
+
+-- the value of digits that stand behind a number m
+abbrev pub value : (m : ℕ) → List ℕ → ℕ
+value m [] = m
+value m (d ∷ ds) = value (10 * m + (d - code "0")) ds
+
+-- 01, kind 2: an IntConst is signed, its 32 bits are two's complement. Is it negative, and how far is it from 0?
+abbrev pub negative : ℕ → Bool
+negative a = ltb (2 ^ 31 - 1) a
+
+unfoldable pub magnitude : ℕ → ℕ
+magnitude a = cond (negative a) (2 ^ 32 - a) a
+
+-- the number itself: -1 - k is `negsuc k`
+unfoldable pub signed : ℕ → ℤ
+signed a = cond (negative a) (negsuc (2 ^ 32 - 1 - a)) (pos a)

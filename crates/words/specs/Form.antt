@@ -1,0 +1,78 @@
+-- The form of a name and of a float's text (01, "Tree records", the paragraph behind the table). Assumes nothing.
+use mathlib.Core.Bool.{Bool, true, false, not, _&&_, _||_, cond}
+use mathlib.Core.List.{List, [], _∷_, _++_}
+use Prim.Native.Nat.{ℕ}
+use Prim.Native.Char.{code}
+use Prim.Native.String.{String}
+use lib.ListN.{length, getD}
+use lib.Dec.{leb, eqb}
+use Rattle.words.specs.Bytes.{bytes}
+use Rattle.words.specs.Table.{fixedWords}
+
+-- how long a name and a float's text may be
+abbrev pub longest-name : ℕ
+longest-name = 255
+
+abbrev pub longest-float : ℕ
+longest-float = 400
+
+abbrev pub between : ℕ → ℕ → ℕ → Bool
+between low high x = leb low x && leb x high
+
+unfoldable pub digit : ℕ → Bool
+digit x = between (code "0") (code "9") x
+
+unfoldable pub letter : ℕ → Bool
+letter x = between (code "a") (code "z") x || between (code "A") (code "Z") x
+
+unfoldable pub nameByte : ℕ → Bool
+nameByte x = letter x || digit x || eqb x (code "_")
+
+unfoldable pub all : (ℕ → Bool) → List ℕ → Bool
+all f [] = true
+all f (x ∷ xs) = f x && all f xs
+
+unfoldable pub same : List ℕ → List ℕ → Bool
+same [] [] = true
+same [] (y ∷ ys) = false
+same (x ∷ xs) [] = false
+same (x ∷ xs) (y ∷ ys) = eqb x y && same xs ys
+
+-- one of these words
+unfoldable pub oneOf : List String → List ℕ → Bool
+oneOf [] s = false
+oneOf (w ∷ ws) s = same (bytes w) s || oneOf ws s
+
+-- 1 to 255 letters, digits and underscores, no digit first, and no fixed word
+unfoldable pub nameForm : List ℕ → Bool
+nameForm s = between 1 longest-name (length s) && not (digit (getD s 0 0)) && all nameByte s && not (oneOf fixedWords s)
+
+-- the digits at the front of s, and what is behind them
+unfoldable pub digits : List ℕ → List ℕ
+digits [] = []
+digits (x ∷ xs) = cond (digit x) (x ∷ digits xs) []
+
+unfoldable pub behindDigits : List ℕ → List ℕ
+behindDigits [] = []
+behindDigits (x ∷ xs) = cond (digit x) (behindDigits xs) (x ∷ xs)
+
+-- one digit or more, and no 0 before others
+unfoldable pub wholePart : List ℕ → Bool
+wholePart [] = false
+wholePart (x ∷ []) = true
+wholePart (x ∷ (y ∷ ys)) = not (eqb x (code "0"))
+
+-- one digit or more, the last not 0
+unfoldable pub fraction : List ℕ → Bool
+fraction [] = false
+fraction (x ∷ []) = digit x && not (eqb x (code "0"))
+fraction (x ∷ (y ∷ ys)) = digit x && fraction (y ∷ ys)
+
+-- nothing, or a point and a fraction
+unfoldable pub nothingOrFraction : List ℕ → Bool
+nothingOrFraction [] = true
+nothingOrFraction (x ∷ xs) = eqb x (code ".") && fraction xs
+
+-- 1 to 400 bytes: a whole part, then nothing or a point and a fraction
+unfoldable pub floatForm : List ℕ → Bool
+floatForm s = between 1 longest-float (length s) && wholePart (digits s) && nothingOrFraction (behindDigits s)

@@ -1,0 +1,5 @@
+pub mod Bytes
+pub mod Word
+pub mod Symbol
+pub mod Table
+pub mod Form
