@@ -2,6 +2,7 @@
 -- words"). Assumes nothing.
 use mathlib.Core.List.{List, [], _∷_, _++_, map}
 use Prim.Native.Nat.{ℕ, _-_}
+use Prim.Native.Char.{code}
 use Prim.Native.String.{String}
 use lib.ListN.{length, getD, replicate}
 use Rattle.words.specs.Bytes.{bytes}
@@ -31,12 +32,16 @@ operators = map symbolText unaryOperators ++ map symbolText binaryOperators ++ m
 unfoldable pub texts : List String
 texts = fixedWords ++ operators
 
--- a text, zeros up to the width, and the text's length
+-- the most that a row holds, and the width of a row
 abbrev pub widest : ℕ
 widest = 23
 
+abbrev pub width : ℕ
+width = 24
+
+-- a text, blanks up to the widest, and the text's length
 abbrev pub row : String → List ℕ
-row t = bytes t ++ replicate (widest - length (bytes t)) 0 ++ (length (bytes t) ∷ [])
+row t = bytes t ++ replicate (widest - length (bytes t)) (code " ") ++ (length (bytes t) ∷ [])
 
 abbrev pub rows : List String → List ℕ
 rows [] = []
