@@ -1,0 +1,93 @@
+-- What stands at record i, from the records behind it. Assumes nothing.
+use mathlib.Core.Path.{_≡_, refl, ap, sym, _∙_}
+use mathlib.Core.Bool.{Bool, true, false}
+use mathlib.Core.List.{List, [], _∷_, _++_}
+use mathlib.Core.Logic.{⊎-elim}
+use Prim.Native.Nat.{ℕ, zero, suc, _+_, _-_, _<_, _≤_}
+use native.Mathlib.Omega.{arith}
+use native.Mathlib.Nat.{eq-zero-or-pos, add-zero, zero-add}
+use borrow.Author.Tests.{le-ltb}
+use lib.Dec.{eqb, eqb·suc-suc, eqb·suc-zero}
+use Rattle.text.specs.Text.{single-item}
+use lib.ListN.{drop}
+use Rattle.records.specs.Record.{recordAt, recordCount, no-record}
+use Rattle.text.specs.Tree.{Expr, Exprs, Statement, Statements}
+use Rattle.text.specs.Reading.{Read, Item, Reader, first, items, itemOf, from, itemAt, joined, _and_, give, several, unaryOp, binaryOp, assignmentOp, exprOf, typeOf, baseOf, arrayOf, dimensionOf, fieldOf, identifierOf, qualifierOf, specOf, layoutIdOf, fullTypeOf, prototypeOf, parameterOf, declaratorsOf, singleOf, declaratorOf, initializerOf, blockOf, declarationOf, compoundOf, statementOf, conditionOf, forInitOf, externalOf, unitOf, expr, callee, statement, counted, made}
+
+below : {A : Type 0} (i n : ℕ) → (i < n → A) → (n ≤ i → A) → A
+below i n f g = ⊎-elim (λ (e : n - i ≡ 0). g (omega arith)) (λ (h : 0 < n - i). f (omega arith)) (eq-zero-or-pos (n - i))
+
+module _ (rs ns : List ℕ) where
+  from-at : (n i : ℕ) → recordCount rs - i ≡ n → from rs ns i ≡ items n rs ns i
+  unfolding from
+  from-at n i e = rw e refl
+
+  record-out : (i : ℕ) → recordCount rs ≤ i → recordAt rs i ≡ no-record
+  unfolding recordAt
+  record-out i h = rw (le-ltb i (recordCount rs) h) refl
+
+  from-in : (i : ℕ) → i < recordCount rs → from rs ns i ≡ itemOf ns (recordAt rs i) (from rs ns (i + 1)) ∷ from rs ns (i + 1)
+  unfolding items
+  from-in i h =
+      let e : recordCount rs - i ≡ suc (recordCount rs - (i + 1)) = omega arith in
+      from-at (suc (recordCount rs - (i + 1))) i e
+      ∙ ap (λ (L : List Item). itemOf ns (recordAt rs i) L ∷ L) (sym (from-at (recordCount rs - (i + 1)) (i + 1) refl))
+
+  from-out : (i : ℕ) → recordCount rs ≤ i → from rs ns i ≡ []
+  unfolding items
+  from-out i h = from-at 0 i (omega arith)
+
+  -- inside and outside
+  pub item-at : (i : ℕ) → itemAt rs ns i ≡ itemOf ns (recordAt rs i) (from rs ns (i + 1))
+  unfolding first itemOf exprOf typeOf baseOf arrayOf dimensionOf fieldOf identifierOf qualifierOf specOf layoutIdOf fullTypeOf prototypeOf parameterOf declaratorsOf singleOf declaratorOf initializerOf blockOf declarationOf compoundOf statementOf conditionOf forInitOf externalOf unitOf
+  item-at i = below i (recordCount rs) (λ h. rw (from-in i h) refl) (λ h. rw (from-out i h, record-out i h) refl)
+
+  pub from-drop : (k i : ℕ) → drop k (from rs ns i) ≡ from rs ns (i + k)
+  from-drop zero i = rw (add-zero i) refl
+  from-drop (suc k) i = below i (recordCount rs)
+      (λ h. rw (from-in i h) (from-drop k (i + 1) ∙ ap (from rs ns) (omega arith)))
+      (λ h. rw (from-out i h) (sym (from-out (i + suc k) (omega arith))))
+
+  -- ONE law for the parts of every kind: the next part is read where those before it end
+  pub and-at : {A B : Type 0} (f : Reader (A → B)) (p : Reader A) (i : ℕ) → (f and p) (from rs ns i) ≡ joined (f (from rs ns i)) (p (from rs ns (i + f (from rs ns i) .size)))
+  and-at f p i = ap (λ (L : List Item). joined (f (from rs ns i)) (p L)) (from-drop (f (from rs ns i) .size) i)
+
+  -- a binary expression, as an example of a kind
+  pub binary-at : (i : ℕ) → recordAt rs i .kind ≡ 8 →
+      itemAt rs ns i .expr ≡ counted ((give (Expr.Binary (binaryOp (recordAt rs i .variant))) and expr and expr) (from rs ns (i + 1)))
+  unfolding exprOf itemOf
+  binary-at i e = rw (item-at i, e) refl
+
+  -- the first part is read where the parts begin
+  pub part-at : {A B : Type 0} (f : A → B) (p : Reader A) (i : ℕ) → (give f and p) (from rs ns i) ≡ made f (p (from rs ns i))
+  part-at {B = B} f p i = ap (λ (n : ℕ). made {A = ℕ} {B = B} (λ x. f (p (from rs ns i) .tree)) (record { tree = n; size = n })) (zero-add (p (from rs ns i) .size))
+
+  -- the same, part by part
+  pub binary-parts : (i : ℕ) → recordAt rs i .kind ≡ 8 →
+      itemAt rs ns i .expr .tree ≡ Expr.Binary (binaryOp (recordAt rs i .variant)) (itemAt rs ns (i + 1) .expr .tree) (itemAt rs ns (i + 1 + itemAt rs ns (i + 1) .expr .size) .expr .tree)
+  binary-parts i e =
+      ap (λ (x : Read Expr). x .tree) (binary-at i e)
+      ∙ ap (λ (x : Read Expr). x .tree) (and-at (give (Expr.Binary (binaryOp (recordAt rs i .variant))) and expr) expr (i + 1))
+      ∙ rw (zero-add (itemAt rs ns (i + 1) .expr .size)) refl
+
+  pub binary-size : (i : ℕ) → recordAt rs i .kind ≡ 8 →
+      itemAt rs ns i .expr .size ≡ 1 + (itemAt rs ns (i + 1) .expr .size + itemAt rs ns (i + 1 + itemAt rs ns (i + 1) .expr .size) .expr .size)
+  binary-size i e =
+      ap (λ (x : Read Expr). x .size) (binary-at i e)
+      ∙ ap (λ (x : Read Expr). 1 + x .size) (and-at (give (Expr.Binary (binaryOp (recordAt rs i .variant))) and expr) expr (i + 1))
+      ∙ rw (zero-add (itemAt rs ns (i + 1) .expr .size)) refl
+
+  -- the parts of a list: one, and those behind it
+  pub several-at : {A B : Type 0} (n : ℕ) (p : Reader A) (end : B) (more : A → B → B) (i : ℕ) →
+      several (suc n) p end more (from rs ns i) .tree ≡ more (p (from rs ns i) .tree) (several n p end more (from rs ns (i + p (from rs ns i) .size)) .tree)
+  unfolding several
+  several-at {B = B} n p end more i =
+      ap (λ (x : Read B). x .tree) (and-at (give more and p) (several n p end more) i)
+      ∙ rw (zero-add (p (from rs ns i) .size)) refl
+
+-- what collapses: a compound statement whose record counts one
+pub single-item-count : (n : ℕ) (L : List Item) → single-item (several n statement Statements.no-statements Statements.statements L .tree) ≡ eqb n 1
+unfolding several
+single-item-count zero L = refl
+single-item-count (suc zero) L = refl
+single-item-count (suc (suc n)) L = sym (eqb·suc-suc (suc n) 0 ∙ eqb·suc-zero n)

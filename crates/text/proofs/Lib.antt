@@ -1,0 +1,5 @@
+pub mod Computing
+pub mod Rows
+pub mod OnlyLayout
+pub mod Append
+pub mod At

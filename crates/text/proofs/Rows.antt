@@ -1,0 +1,155 @@
+-- Document 01's texts to match, and some of our own, from the bytes of the records: one table, one theorem, by computation. Assumes nothing.
+use Prim.Native.Nat.{ℕ, _/_, _%_}
+use Prim.Native.String.{String}
+use mathlib.Core.Path.{_≡_, refl}
+use mathlib.Core.Bool.{Bool, true, false, cond}
+use mathlib.Core.List.{List, [], _∷_, _++_, map}
+use mathlib.Core.Option.{Option, none, some}
+use Rattle.words.specs.Bytes.{bytes}
+use Rattle.settings.specs.Settings.{TIGHT, OPEN}
+use Rattle.text.specs.Whole.{unitText, exprText}
+use Rattle.text.specs.Joined.{joinedAnswer}
+use Rattle.text.proofs.Computing.{computing}
+
+-- a record: kind, variant, count, a, b
+abbrev pub rec : ℕ → ℕ → ℕ → ℕ → ℕ → List ℕ
+rec k v n a b =
+    k ∷ v ∷ n % 256 ∷ n / 256 ∷ a % 256 ∷ a / 256 % 256 ∷ a / 65536 % 256 ∷ a / 16777216 ∷ b % 256 ∷ b / 256 % 256 ∷ b / 65536 % 256 ∷ b / 16777216 ∷ []
+
+-- with a variant alone; with a count alone; with the one-letter name at offset a
+abbrev plain : ℕ → ℕ → List ℕ
+plain k v = rec k v 0 0 0
+
+abbrev many : ℕ → ℕ → List ℕ
+many k n = rec k 0 n 0 0
+
+abbrev named : ℕ → ℕ → ℕ → List ℕ
+named k v a = rec k v 0 a 1
+
+-- expressions
+abbrev var : ℕ → List ℕ
+var a = named 1 0 a
+
+abbrev int : ℕ → List ℕ
+int n = rec 2 0 0 n 0
+
+abbrev decrement : List ℕ
+decrement = plain 7 1
+
+abbrev negate : List ℕ
+negate = plain 7 3
+
+abbrev minus : List ℕ
+minus = plain 8 15
+
+abbrev choose : List ℕ
+choose = plain 9 0
+
+-- declarations and statements
+abbrev keyword : ℕ → List ℕ
+keyword v = plain 20 0 ++ plain 21 v
+
+abbrev function : ℕ → List ℕ
+function a = plain 81 0 ++ named 40 0 a ++ plain 31 0 ++ keyword 0
+
+abbrev declared : ℕ → List ℕ
+declared a = plain 47 1 ++ plain 42 0 ++ named 43 1 a ++ plain 31 0
+
+abbrev block : ℕ → List ℕ
+block n = many 60 n
+
+abbrev return : List ℕ
+return = plain 68 3
+
+-- settings of our own. A newline behind the open brace alone, indents of two tabs, spaces behind statements and functions: a flushed newline is no
+-- longer pending.
+abbrev pub mixed : List ℕ
+mixed = 1 ∷ 2 ∷ 0 ∷ 1 ∷ 0 ∷ 0 ∷ 0 ∷ 0 ∷ 0 ∷ 0 ∷ 0 ∷ 0 ∷ 0 ∷ 1 ∷ 1 ∷ 0 ∷ 0 ∷ 0 ∷ 0 ∷ 0 ∷ 0 ∷ []
+
+-- TIGHT but for collapse, and OPEN but for collapse
+abbrev pub collapsing : List ℕ
+collapsing = 0 ∷ 0 ∷ 0 ∷ 0 ∷ 0 ∷ 0 ∷ 0 ∷ 0 ∷ 0 ∷ 0 ∷ 0 ∷ 0 ∷ 0 ∷ 0 ∷ 0 ∷ 1 ∷ 0 ∷ 0 ∷ 0 ∷ 0 ∷ 0 ∷ []
+
+abbrev pub open-collapsing : List ℕ
+open-collapsing = 2 ∷ 4 ∷ 1 ∷ 1 ∷ 1 ∷ 1 ∷ 1 ∷ 1 ∷ 2 ∷ 2 ∷ 2 ∷ 2 ∷ 1 ∷ 2 ∷ 2 ∷ 1 ∷ 1 ∷ 1 ∷ 1 ∷ 1 ∷ 1 ∷ []
+
+pub record Outcome : Type 0 where
+  pub text : List ℕ
+  -- the answer to the joined question, where it is asked
+  pub joined : Option Bool
+
+pub record Row : Type 0 where
+  pub unit : Bool
+  pub settings : List ℕ
+  pub records : List ℕ
+  pub names : String
+  pub outcome : Outcome
+
+-- an expression in TIGHT and OPEN, with the answer to the joined question
+abbrev pub expr : List ℕ → String → String → String → Bool → List Row
+expr rs ns t o j =
+    record { unit = false; settings = TIGHT; records = rs; names = ns; outcome = record { text = bytes t; joined = some j } }
+    ∷ record { unit = false; settings = OPEN; records = rs; names = ns; outcome = record { text = bytes o; joined = some j } } ∷ []
+
+-- a unit in one settings, and in TIGHT and OPEN
+abbrev pub unitIn : List ℕ → List ℕ → String → String → List Row
+unitIn s rs ns t = record { unit = true; settings = s; records = rs; names = ns; outcome = record { text = bytes t; joined = none } } ∷ []
+
+abbrev pub unit : List ℕ → String → String → String → List Row
+unit rs ns t o = unitIn TIGHT rs ns t ++ unitIn OPEN rs ns o
+
+-- 01, "Texts to match", in its order
+abbrev pub rows-of-01 : List Row
+rows-of-01 =
+    expr (minus ++ var 0 ++ negate ++ var 1) "ab" "a--b" "a - -b" true
+    ++ expr (minus ++ plain 15 0 ++ var 0 ++ var 1) "ab" "a---b" "a-- - b" false
+    ++ expr (minus ++ var 0 ++ decrement ++ var 1) "ab" "a---b" "a - --b" true
+    ++ expr (negate ++ negate ++ var 0) "a" "-(-a)" "-(-a)" false
+    ++ expr (negate ++ decrement ++ var 0) "a" "---a" "---a" false
+    ++ expr (decrement ++ negate ++ var 0) "a" "---a" "---a" false
+    ++ expr (minus ++ var 0 ++ minus ++ var 1 ++ var 2) "abc" "a-(b-c)" "a - (b - c)" false
+    ++ expr (minus ++ minus ++ var 0 ++ var 1 ++ var 2) "abc" "a-b-c" "a - b - c" false
+    ++ expr (plain 14 0 ++ plain 11 0 ++ var 0 ++ int 1) "a" "(a[1])++" "(a[1])++" false
+    ++ expr (many 12 1 ++ var 0 ++ plain 16 0 ++ var 1 ++ var 2) "fab" "f(a,b)" "f(a, b)" false
+    ++ expr (choose ++ choose ++ var 0 ++ var 1 ++ var 2 ++ var 3 ++ var 4) "abcde" "(a?b:c)?d:e" "(a ? b : c) ? d : e" false
+    ++ expr (named 6 0 0) "1" "1.lf" "1.lf" false
+    ++ expr (rec 13 0 0 0 2 ++ int 1) "lf" "1.lf" "1.lf" false
+    ++ expr (int 2147483648) "" "-2147483648" "-2147483648" false
+    ++ unit (many 80 0) "" "" ""
+    ++ unit (many 80 1 ++ function 0 ++ block 1 ++ plain 68 4 ++ negate ++ var 1) "fa" "void f(){return -a;}" "void f() {\n    return -a;\n}\n"
+    ++ unit (many 80 1 ++ declared 0 ++ keyword 2) "x" "int x;" "int x;"
+
+-- what no row of document 01 sees: a flush, collapse, nested blocks (texts of the Rust module)
+abbrev if-else : List ℕ
+if-else = many 80 1 ++ function 0 ++ block 1 ++ plain 62 1 ++ var 1 ++ block 1 ++ return ++ block 1 ++ return
+
+abbrev nested-structs : List ℕ
+nested-structs =
+    many 80 1 ++ declared 0 ++ plain 20 0 ++ rec 23 1 1 1 1 ++ rec 26 0 1 0 0 ++ plain 20 0 ++ rec 23 0 1 0 0 ++ rec 26 0 1 0 0 ++ keyword 4 ++ named 27 0 2 ++ named 27 0 3
+
+abbrev pub our-rows : List Row
+our-rows =
+    unitIn mixed (many 80 1 ++ function 0 ++ block 2 ++ plain 68 4 ++ negate ++ var 1 ++ return) "fa" "void f(){\n\t\treturn -a; return; } "
+    ++ unitIn collapsing (many 80 1 ++ function 0 ++ block 1 ++ block 1 ++ return) "f" "void f(){return;}"
+    ++ unitIn collapsing (many 80 1 ++ function 0 ++ block 1 ++ block 2 ++ return ++ return) "f" "void f(){{return;return;}}"
+    ++ unit if-else "fa" "void f(){if(a){return;}else {return;}}" "void f() {\n    if (a) {\n        return;\n    } else {\n        return;\n    }\n}\n"
+    ++ unitIn open-collapsing if-else "fa" "void f() {\n    if (a) \n        return; else \n        return;\n}\n"
+    ++ unit nested-structs "sSxt" "struct S{struct {float x;} t;} s;" "struct S {\n    struct  {\n        float x;\n    } t;\n} s;"
+
+abbrev pub rows : List Row
+rows = rows-of-01 ++ our-rows
+
+abbrev answered : Option Bool → Bool → Option Bool
+answered none b = none
+answered (some asked) b = some b
+
+abbrev pub printed : Row → Outcome
+printed r = record {
+  text = cond (r .unit) (unitText (r .settings) (r .records) (bytes (r .names))) (exprText (r .settings) (r .records) (bytes (r .names)));
+  joined = answered (r .outcome .joined) (joinedAnswer (r .records) (bytes (r .names)));
+}
+
+-- the definition gives each row's outcome
+pub match : map printed rows ≡ map (λ r. r .outcome) rows
+unfolding computing
+match = refl

@@ -1,0 +1,48 @@
+-- What a command can ask the settings for: the flags and the whitespaces of FormattingSettings, by name. Assumes nothing.
+use mathlib.Core.Bool.{Bool}
+use Rattle.settings.specs.declared.Settings.{Settings}
+use Rattle.settings.specs.declared.Whitespace.{Whitespace}
+
+-- but for collapse_single_item_compound_statements, which decides what commands there are
+pub data Flag : Type 0 where
+  space-before-open-block : Flag
+  newline-after-open-block : Flag
+  newline-before-close-block : Flag
+  newline-after-close-block : Flag
+  newline-after-collapsed-statement : Flag
+  newline-before-collapsed-statement : Flag
+  spaces-around-binary-ops : Flag
+  space-before-else : Flag
+  space-after-list-separator : Flag
+  space-after-for-statement-separator : Flag
+  spaces-surrounding-initializer-list-expressions : Flag
+  spaces-surrounding-statement-parentheses : Flag
+
+-- but for struct_declaration_terminator, which only show_struct reads (01 leaves it out)
+pub data Gap : Type 0 where
+  struct-field-separator : Gap
+  declaration-terminator : Gap
+  case-label-terminator : Gap
+  statement-terminator : Gap
+  function-definition-terminator : Gap
+
+unfoldable pub flag : Settings → Flag → Bool
+flag s space-before-open-block = s .«space_before_open_block»
+flag s newline-after-open-block = s .«newline_after_open_block»
+flag s newline-before-close-block = s .«newline_before_close_block»
+flag s newline-after-close-block = s .«newline_after_close_block»
+flag s newline-after-collapsed-statement = s .«newline_after_collapsed_statement»
+flag s newline-before-collapsed-statement = s .«newline_before_collapsed_statement»
+flag s spaces-around-binary-ops = s .«spaces_around_binary_ops»
+flag s space-before-else = s .«space_before_else»
+flag s space-after-list-separator = s .«space_after_list_separator»
+flag s space-after-for-statement-separator = s .«space_after_for_statement_separator»
+flag s spaces-surrounding-initializer-list-expressions = s .«spaces_surrounding_initializer_list_expressions»
+flag s spaces-surrounding-statement-parentheses = s .«spaces_surrounding_statement_parentheses»
+
+unfoldable pub gap : Settings → Gap → Whitespace
+gap s struct-field-separator = s .«struct_field_separator»
+gap s declaration-terminator = s .«declaration_terminator»
+gap s case-label-terminator = s .«case_label_terminator»
+gap s statement-terminator = s .«statement_terminator»
+gap s function-definition-terminator = s .«function_definition_terminator»

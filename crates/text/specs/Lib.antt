@@ -1,0 +1,10 @@
+pub mod Token
+pub mod Tree
+pub mod Asked
+pub mod Command
+pub mod Pen
+pub mod Text
+pub mod Reading
+pub mod Whole
+pub mod Joined
+pub mod Visible

@@ -1,0 +1,475 @@
+-- The text of each tree, as commands: the printers of 000, in its order and under its names. Assumes nothing.
+use mathlib.Core.Bool.{Bool, true, false, not, _&&_, _||_, cond}
+use mathlib.Core.List.{List, [], _∷_, _++_}
+use mathlib.Core.Option.{Option, none, some}
+use Prim.Native.Nat.{ℕ}
+use lib.Dec.{leb, ltb}
+use Rattle.words.specs.Word.{Word, StorageQualifier}
+use Rattle.words.specs.Symbol.{Symbol}
+use Rattle.decimal.specs.Decimal.{negative, magnitude}
+use Rattle.text.specs.Token.{Token}
+use Rattle.text.specs.Command.{Command, word, symbol, enter-compound-statement-block, enter-external-declaration, enter-block, exit-block, enter-collapsed-compound-statement, exit-collapsed-compound-statement, enter-initializer-list, end-initializer-list, enter-case-label, write-else, write-struct-field-separator, write-list-separator, write-for-statement-separator, write-declaration-terminator, write-binary-op, write-statement-terminator, write-function-definition-terminator, write-statement-opening-parenthesis, write-statement-closing-parenthesis}
+use Rattle.text.specs.Command.Command.{token, space, flush-line, flush-space, consume-newline, enter-function-definition-statement, consume-function-definition-statement}
+use Rattle.text.specs.Tree.{Identifier, UnaryOp, BinaryOp, AssignmentOp, Expr, Exprs, FunIdentifier, TypeSpecifier, TypeSpecifiers, TypeSpecifierNonArray, ArraySpecifier, ArraySpecifierDimension, StructFieldSpecifier, StructFieldSpecifiers, ArrayedIdentifier, ArrayedIdentifiers, Qualification, TypeQualifier, TypeQualifierSpec, LayoutQualifier, LayoutQualifierSpec, FullySpecifiedType, FunctionParameterDeclaration, FunctionPrototype, Initializer, Initializers, SingleDeclaration, SingleDeclarationNoType, InitDeclaratorList, Block, Declaration, Condition, ForInitStatement, JumpStatement, Statement, Statements, ExternalDeclaration, TranslationUnit}
+
+-- 000 HasPrecedence: the smaller the number, the stronger it binds
+abbrev pub atomic : ℕ
+atomic = 0
+
+abbrev pub postfix : ℕ
+postfix = 2
+
+abbrev pub prefix : ℕ
+prefix = 3
+
+abbrev pub ternary : ℕ
+ternary = 15
+
+abbrev pub assignment : ℕ
+assignment = 16
+
+abbrev pub comma : ℕ
+comma = 17
+
+unfoldable pub binary-precedence : BinaryOp → ℕ
+binary-precedence BinaryOp.Mult = 4
+binary-precedence BinaryOp.Div = 4
+binary-precedence BinaryOp.Mod = 4
+binary-precedence BinaryOp.Add = 5
+binary-precedence BinaryOp.Sub = 5
+binary-precedence BinaryOp.LShift = 6
+binary-precedence BinaryOp.RShift = 6
+binary-precedence BinaryOp.Lt = 7
+binary-precedence BinaryOp.Gt = 7
+binary-precedence BinaryOp.Lte = 7
+binary-precedence BinaryOp.Gte = 7
+binary-precedence BinaryOp.Equal = 8
+binary-precedence BinaryOp.NonEqual = 8
+binary-precedence BinaryOp.BitAnd = 9
+binary-precedence BinaryOp.BitXor = 10
+binary-precedence BinaryOp.BitOr = 11
+binary-precedence BinaryOp.And = 12
+binary-precedence BinaryOp.Xor = 13
+binary-precedence BinaryOp.Or = 14
+
+unfoldable pub precedence : Expr → ℕ
+precedence Expr.no-expr = atomic
+precedence (Expr.Variable i) = atomic
+precedence (Expr.IntConst n) = atomic
+precedence (Expr.UIntConst n) = atomic
+precedence (Expr.BoolConst b) = atomic
+precedence (Expr.FloatConst t) = atomic
+precedence (Expr.DoubleConst t) = atomic
+precedence (Expr.Unary op e) = prefix
+precedence (Expr.Binary op l r) = binary-precedence op
+precedence (Expr.Ternary c s e) = ternary
+precedence (Expr.Assignment op v e) = assignment
+precedence (Expr.Bracket e a) = postfix
+precedence (Expr.FunCall f es) = postfix
+precedence (Expr.Dot i e) = postfix
+precedence (Expr.PostInc e) = postfix
+precedence (Expr.PostDec e) = postfix
+precedence (Expr.Comma a b) = comma
+
+-- show_unary_op, show_binary_op, show_assignment_op
+
+unfoldable pub unary-symbol : UnaryOp → Symbol
+unary-symbol UnaryOp.Inc = Symbol.inc-op
+unary-symbol UnaryOp.Dec = Symbol.dec-op
+unary-symbol UnaryOp.Add = Symbol.plus
+unary-symbol UnaryOp.Minus = Symbol.dash
+unary-symbol UnaryOp.Not = Symbol.bang
+unary-symbol UnaryOp.Complement = Symbol.tilde
+
+unfoldable pub binary-symbol : BinaryOp → Symbol
+binary-symbol BinaryOp.Or = Symbol.or-op
+binary-symbol BinaryOp.Xor = Symbol.xor-op
+binary-symbol BinaryOp.And = Symbol.and-op
+binary-symbol BinaryOp.BitOr = Symbol.vertical-bar
+binary-symbol BinaryOp.BitXor = Symbol.caret
+binary-symbol BinaryOp.BitAnd = Symbol.ampersand
+binary-symbol BinaryOp.Equal = Symbol.eq-op
+binary-symbol BinaryOp.NonEqual = Symbol.ne-op
+binary-symbol BinaryOp.Lt = Symbol.left-angle
+binary-symbol BinaryOp.Gt = Symbol.right-angle
+binary-symbol BinaryOp.Lte = Symbol.le-op
+binary-symbol BinaryOp.Gte = Symbol.ge-op
+binary-symbol BinaryOp.LShift = Symbol.left-op
+binary-symbol BinaryOp.RShift = Symbol.right-op
+binary-symbol BinaryOp.Add = Symbol.plus
+binary-symbol BinaryOp.Sub = Symbol.dash
+binary-symbol BinaryOp.Mult = Symbol.star
+binary-symbol BinaryOp.Div = Symbol.slash
+binary-symbol BinaryOp.Mod = Symbol.percent
+
+unfoldable pub assignment-symbol : AssignmentOp → Symbol
+assignment-symbol AssignmentOp.Equal = Symbol.equal
+assignment-symbol AssignmentOp.Mult = Symbol.mul-assign
+assignment-symbol AssignmentOp.Div = Symbol.div-assign
+assignment-symbol AssignmentOp.Mod = Symbol.mod-assign
+assignment-symbol AssignmentOp.Add = Symbol.add-assign
+assignment-symbol AssignmentOp.Sub = Symbol.sub-assign
+assignment-symbol AssignmentOp.LShift = Symbol.left-assign
+assignment-symbol AssignmentOp.RShift = Symbol.right-assign
+assignment-symbol AssignmentOp.And = Symbol.and-assign
+assignment-symbol AssignmentOp.Xor = Symbol.xor-assign
+assignment-symbol AssignmentOp.Or = Symbol.or-assign
+
+-- small lists
+
+abbrev pub one : Token → List Command
+one t = token t ∷ []
+
+abbrev pub a-word : Word → List Command
+a-word w = word w ∷ []
+
+abbrev pub a-symbol : Symbol → List Command
+a-symbol y = symbol y ∷ []
+
+abbrev pub a-space : List Command
+a-space = space ∷ []
+
+abbrev pub show-identifier : Identifier → List Command
+show-identifier i = one (Token.name i)
+
+-- (..) and [..]
+abbrev pub parenthesized : List Command → List Command
+parenthesized cs = a-symbol Symbol.left-paren ++ cs ++ a-symbol Symbol.right-paren
+
+abbrev pub bracketed : List Command → List Command
+bracketed cs = a-symbol Symbol.left-bracket ++ cs ++ a-symbol Symbol.right-bracket
+
+-- where it is bare it stands as it is, elsewhere in parentheses
+abbrev pub bare-if : Bool → List Command → List Command
+bare-if true cs = cs
+bare-if false cs = parenthesized cs
+
+-- a separator, before each but the first
+abbrev pub separator : (first : Bool) → List Command
+separator true = []
+separator false = write-list-separator
+
+-- a space, before each but the first
+abbrev pub space-between : (first : Bool) → List Command
+space-between true = []
+space-between false = a-space
+
+-- an i32 from its 32 bits: a negative number's sign is a token of its own
+abbrev pub show-int : ℕ → List Command
+show-int n = cond (negative n) (symbol Symbol.dash ∷ one (Token.int (magnitude n))) (one (Token.int (magnitude n)))
+
+abbrev pub bool-word : Bool → Word
+bool-word true = Word.true
+bool-word false = Word.false
+
+unfoldable pub is-add : UnaryOp → Bool
+is-add UnaryOp.Inc = false
+is-add UnaryOp.Dec = false
+is-add UnaryOp.Add = true
+is-add UnaryOp.Minus = false
+is-add UnaryOp.Not = false
+is-add UnaryOp.Complement = false
+
+unfoldable pub is-minus : UnaryOp → Bool
+is-minus UnaryOp.Inc = false
+is-minus UnaryOp.Dec = false
+is-minus UnaryOp.Add = false
+is-minus UnaryOp.Minus = true
+is-minus UnaryOp.Not = false
+is-minus UnaryOp.Complement = false
+
+-- plus over plus and minus over minus, which would read as ++ and --
+unfoldable pub doubled : UnaryOp → UnaryOp → Bool
+doubled op o = is-add op && is-add o || is-minus op && is-minus o
+
+-- the operator of a unary expression
+unfoldable pub unary-op : Expr → Option UnaryOp
+unary-op Expr.no-expr = none
+unary-op (Expr.Variable i) = none
+unary-op (Expr.IntConst n) = none
+unary-op (Expr.UIntConst n) = none
+unary-op (Expr.BoolConst b) = none
+unary-op (Expr.FloatConst t) = none
+unary-op (Expr.DoubleConst t) = none
+unary-op (Expr.Unary op e) = some op
+unary-op (Expr.Binary op l r) = none
+unary-op (Expr.Ternary c s e) = none
+unary-op (Expr.Assignment op v e) = none
+unary-op (Expr.Bracket e a) = none
+unary-op (Expr.FunCall f es) = none
+unary-op (Expr.Dot i e) = none
+unary-op (Expr.PostInc e) = none
+unary-op (Expr.PostDec e) = none
+unary-op (Expr.Comma a b) = none
+
+unfoldable pub doubles : UnaryOp → Option UnaryOp → Bool
+doubles op none = false
+doubles op (some o) = doubled op o
+
+-- the name of a struct, if it has one
+abbrev pub show-name : Option Identifier → List Command
+show-name none = []
+show-name (some i) = show-identifier i
+
+abbrev pub is-nil : TypeSpecifiers → Bool
+is-nil TypeSpecifiers.no-types = true
+is-nil (TypeSpecifiers.types t ts) = false
+
+-- types, structs, arrays, qualifiers and expressions
+unfoldable mutual
+  pub show-type-specifier-non-array : TypeSpecifierNonArray → List Command
+  show-type-specifier-non-array TypeSpecifierNonArray.no-base = []
+  show-type-specifier-non-array (TypeSpecifierNonArray.Keyword v) = one (Token.type v)
+  show-type-specifier-non-array (TypeSpecifierNonArray.TypeName i) = show-identifier i
+  show-type-specifier-non-array (TypeSpecifierNonArray.Struct i fs) =
+      a-word Word.struct ++ a-space ++ show-name i ++ enter-block ++ show-struct-fields fs ++ exit-block
+
+  pub show-type-specifier : TypeSpecifier → List Command
+  show-type-specifier TypeSpecifier.no-type = []
+  show-type-specifier (TypeSpecifier.type t a) = show-type-specifier-non-array t ++ show-array-spec a
+
+  pub show-type-specifiers : TypeSpecifiers → (first : Bool) → List Command
+  show-type-specifiers TypeSpecifiers.no-types first = []
+  show-type-specifiers (TypeSpecifiers.types t ts) first = separator first ++ show-type-specifier t ++ show-type-specifiers ts false
+
+  pub show-struct-fields : StructFieldSpecifiers → List Command
+  show-struct-fields StructFieldSpecifiers.no-fields = []
+  show-struct-fields (StructFieldSpecifiers.fields f fs) = flush-line ∷ show-struct-field f ++ write-struct-field-separator ++ show-struct-fields fs
+
+  pub show-struct-field : StructFieldSpecifier → List Command
+  show-struct-field StructFieldSpecifier.no-field = []
+  show-struct-field (StructFieldSpecifier.field q t is) = show-qualification q ++ show-type-specifier t ++ a-space ++ show-arrayed-identifiers is true
+
+  pub show-array-spec : ArraySpecifier → List Command
+  show-array-spec ArraySpecifier.no-dimensions = []
+  show-array-spec (ArraySpecifier.dimensions d ds) = show-dimension d ++ show-array-spec ds
+
+  pub show-dimension : ArraySpecifierDimension → List Command
+  show-dimension ArraySpecifierDimension.no-dimension = []
+  show-dimension ArraySpecifierDimension.Unsized = bracketed []
+  show-dimension (ArraySpecifierDimension.ExplicitlySized e) = bracketed (show-expr e)
+
+  pub show-arrayed-identifier : ArrayedIdentifier → List Command
+  show-arrayed-identifier ArrayedIdentifier.no-identifier = []
+  show-arrayed-identifier (ArrayedIdentifier.arrayed i a) = show-identifier i ++ show-array-spec a
+
+  pub show-arrayed-identifiers : ArrayedIdentifiers → (first : Bool) → List Command
+  show-arrayed-identifiers ArrayedIdentifiers.no-identifiers first = []
+  show-arrayed-identifiers (ArrayedIdentifiers.identifiers i is) first =
+      separator first ++ show-arrayed-identifier i ++ show-arrayed-identifiers is false
+
+  pub show-qualification : Qualification → List Command
+  show-qualification Qualification.unqualified = []
+  show-qualification (Qualification.qualified q) = show-type-qualifier q true ++ a-space
+
+  pub show-type-qualifier : TypeQualifier → (first : Bool) → List Command
+  show-type-qualifier TypeQualifier.no-specs first = []
+  show-type-qualifier (TypeQualifier.specs q qs) first = space-between first ++ show-type-qualifier-spec q ++ show-type-qualifier qs false
+
+  pub show-type-qualifier-spec : TypeQualifierSpec → List Command
+  show-type-qualifier-spec TypeQualifierSpec.no-spec = []
+  show-type-qualifier-spec (TypeQualifierSpec.Storage q) = a-word (Word.storage q)
+  show-type-qualifier-spec (TypeQualifierSpec.Subroutine ts) =
+      a-word Word.subroutine ++ cond (is-nil ts) [] (parenthesized (show-type-specifiers ts true))
+  show-type-qualifier-spec (TypeQualifierSpec.Layout is) = a-word Word.layout ++ parenthesized (show-layout-ids is true)
+  show-type-qualifier-spec (TypeQualifierSpec.Precision p) = a-word (Word.precision-qualifier p)
+  show-type-qualifier-spec (TypeQualifierSpec.Interpolation i) = a-word (Word.interpolation i)
+  show-type-qualifier-spec TypeQualifierSpec.Invariant = a-word Word.invariant
+  show-type-qualifier-spec TypeQualifierSpec.Precise = a-word Word.precise
+
+  pub show-layout-ids : LayoutQualifier → (first : Bool) → List Command
+  show-layout-ids LayoutQualifier.no-ids first = []
+  show-layout-ids (LayoutQualifier.ids i is) first = separator first ++ show-layout-qualifier-spec i ++ show-layout-ids is false
+
+  pub show-layout-qualifier-spec : LayoutQualifierSpec → List Command
+  show-layout-qualifier-spec LayoutQualifierSpec.no-id = []
+  show-layout-qualifier-spec (LayoutQualifierSpec.Ident i) = show-identifier i
+  show-layout-qualifier-spec (LayoutQualifierSpec.IdentIs i e) = show-identifier i ++ write-binary-op Symbol.equal ++ show-expr e
+  show-layout-qualifier-spec LayoutQualifierSpec.Shared = a-word (Word.storage StorageQualifier.shared)
+
+  pub show-expr : Expr → List Command
+  show-expr Expr.no-expr = []
+  show-expr (Expr.Variable i) = show-identifier i
+  show-expr (Expr.IntConst n) = show-int n
+  show-expr (Expr.UIntConst n) = one (Token.uint n)
+  show-expr (Expr.BoolConst b) = a-word (bool-word b)
+  show-expr (Expr.FloatConst t) = one (Token.float t)
+  show-expr (Expr.DoubleConst t) = one (Token.double t)
+  show-expr (Expr.Unary op e) = a-symbol (unary-symbol op) ++ bare-if (leb (precedence e) prefix && not (doubles op (unary-op e))) (show-expr e)
+  show-expr (Expr.Binary op l r) =
+      bare-if (leb (precedence l) (binary-precedence op)) (show-expr l) ++ write-binary-op (binary-symbol op) ++ bare-if (ltb (precedence r) (binary-precedence op)) (show-expr r)
+  show-expr (Expr.Ternary c s e) =
+      bare-if (ltb (precedence c) ternary) (show-expr c) ++ write-binary-op Symbol.question ++ show-expr s ++ write-binary-op Symbol.colon ++ bare-if (leb (precedence e) ternary) (show-expr e)
+  show-expr (Expr.Assignment op v e) =
+      bare-if (ltb (precedence v) assignment) (show-expr v) ++ write-binary-op (assignment-symbol op) ++ bare-if (leb (precedence e) assignment) (show-expr e)
+  show-expr (Expr.Bracket e a) = bare-if (leb (precedence e) postfix) (show-expr e) ++ bracketed (show-expr a)
+  show-expr (Expr.FunCall f es) = show-function-identifier f ++ parenthesized (show-exprs es true)
+  show-expr (Expr.Dot i e) = bare-if (leb (precedence e) postfix) (show-expr e) ++ a-symbol Symbol.dot ++ show-identifier i
+  show-expr (Expr.PostInc e) = bare-if (ltb (precedence e) postfix) (show-expr e) ++ a-symbol Symbol.inc-op
+  show-expr (Expr.PostDec e) = bare-if (ltb (precedence e) postfix) (show-expr e) ++ a-symbol Symbol.dec-op
+  show-expr (Expr.Comma a b) = bare-if (leb (precedence a) comma) (show-expr a) ++ write-list-separator ++ bare-if (ltb (precedence b) comma) (show-expr b)
+
+  pub show-exprs : Exprs → (first : Bool) → List Command
+  show-exprs Exprs.no-exprs first = []
+  show-exprs (Exprs.exprs e es) first = separator first ++ show-expr e ++ show-exprs es false
+
+  pub show-function-identifier : FunIdentifier → List Command
+  show-function-identifier (FunIdentifier.OfType t) = show-type-specifier t
+  show-function-identifier (FunIdentifier.OfExpr e) = show-expr e
+
+-- declarations
+
+unfoldable pub show-fully-specified-type : FullySpecifiedType → List Command
+show-fully-specified-type FullySpecifiedType.no-full-type = []
+show-fully-specified-type (FullySpecifiedType.full-type q t) = show-qualification q ++ show-type-specifier t
+
+unfoldable pub show-function-parameter-declaration : FunctionParameterDeclaration → List Command
+show-function-parameter-declaration FunctionParameterDeclaration.no-parameter = []
+show-function-parameter-declaration (FunctionParameterDeclaration.Unnamed q t) = show-qualification q ++ show-type-specifier t
+show-function-parameter-declaration (FunctionParameterDeclaration.Named q t i) = show-qualification q ++ show-type-specifier t ++ a-space ++ show-arrayed-identifier i
+
+unfoldable pub show-parameters : List FunctionParameterDeclaration → (first : Bool) → List Command
+show-parameters [] first = []
+show-parameters (p ∷ ps) first = separator first ++ show-function-parameter-declaration p ++ show-parameters ps false
+
+unfoldable pub show-function-prototype : FunctionPrototype → List Command
+show-function-prototype FunctionPrototype.no-prototype = []
+show-function-prototype (FunctionPrototype.prototype i t ps) =
+    show-fully-specified-type t ++ a-space ++ show-identifier i ++ parenthesized (show-parameters ps true)
+
+unfoldable mutual
+  pub show-initializer : Initializer → List Command
+  show-initializer Initializer.no-initializer = []
+  show-initializer (Initializer.Simple e) = show-expr e
+  show-initializer (Initializer.ListOf is) = enter-initializer-list ++ show-initializers is true ++ end-initializer-list
+
+  pub show-initializers : Initializers → (first : Bool) → List Command
+  show-initializers Initializers.no-initializers first = []
+  show-initializers (Initializers.initializers i is) first = separator first ++ show-initializer i ++ show-initializers is false
+
+-- the name of the first declarator
+abbrev pub show-declared : Option Identifier → List Command
+show-declared none = []
+show-declared (some i) = a-space ++ show-identifier i
+
+unfoldable pub show-initialized : Option Initializer → List Command
+show-initialized none = []
+show-initialized (some i) = write-binary-op Symbol.equal ++ show-initializer i
+
+unfoldable pub show-single-declaration : SingleDeclaration → List Command
+show-single-declaration SingleDeclaration.no-single = []
+show-single-declaration (SingleDeclaration.single t i a e) = show-fully-specified-type t ++ show-declared i ++ show-array-spec a ++ show-initialized e
+
+unfoldable pub show-single-declaration-no-type : SingleDeclarationNoType → List Command
+show-single-declaration-no-type SingleDeclarationNoType.no-declarator = []
+show-single-declaration-no-type (SingleDeclarationNoType.declarator i e) = show-arrayed-identifier i ++ show-initialized e
+
+unfoldable pub show-tail : List SingleDeclarationNoType → List Command
+show-tail [] = []
+show-tail (d ∷ ds) = write-list-separator ++ show-single-declaration-no-type d ++ show-tail ds
+
+unfoldable pub show-init-declarator-list : InitDeclaratorList → List Command
+show-init-declarator-list InitDeclaratorList.no-declarators = []
+show-init-declarator-list (InitDeclaratorList.declarators d ds) = show-single-declaration d ++ show-tail ds
+
+unfoldable pub show-block-name : Option ArrayedIdentifier → List Command
+show-block-name none = []
+show-block-name (some i) = show-arrayed-identifier i
+
+unfoldable pub show-block : Block → List Command
+show-block Block.no-block = []
+show-block (Block.block i q fs n) =
+    show-type-qualifier q true ++ a-space ++ show-identifier i ++ enter-block ++ show-struct-fields fs ++ exit-block ++ show-block-name n
+
+unfoldable pub show-declaration : Declaration → List Command
+show-declaration Declaration.no-declaration = []
+show-declaration (Declaration.OfPrototype p) = show-function-prototype p ++ write-declaration-terminator
+show-declaration (Declaration.OfDeclarators l) = show-init-declarator-list l ++ write-declaration-terminator
+show-declaration (Declaration.Precision q t) =
+    a-word Word.precision ++ a-space ++ show-type-qualifier-spec q ++ a-space ++ show-type-specifier t ++ write-declaration-terminator
+show-declaration (Declaration.OfBlock b) = show-block b ++ write-declaration-terminator
+show-declaration (Declaration.Invariant i) = a-word Word.invariant ++ a-space ++ show-identifier i ++ write-declaration-terminator
+show-declaration (Declaration.TypeOnly q) = show-type-qualifier q true ++ write-declaration-terminator
+
+-- statements
+
+unfoldable pub show-optional : Option Expr → List Command
+show-optional none = []
+show-optional (some e) = show-expr e
+
+unfoldable pub show-condition : Condition → List Command
+show-condition Condition.no-condition = []
+show-condition (Condition.OfExpr e) = show-expr e
+show-condition (Condition.Assignment i t e) =
+    show-fully-specified-type t ++ a-space ++ show-identifier i ++ write-binary-op Symbol.equal ++ show-initializer e
+
+unfoldable pub show-for-init-statement : ForInitStatement → List Command
+show-for-init-statement ForInitStatement.no-for-init = []
+show-for-init-statement (ForInitStatement.Expression e) = show-optional e ++ write-for-statement-separator
+show-for-init-statement (ForInitStatement.OfDeclaration d) = show-declaration d
+
+unfoldable pub show-for-condition : Option Condition → List Command
+show-for-condition none = []
+show-for-condition (some c) = show-condition c
+
+unfoldable pub show-jump-statement : JumpStatement → List Command
+show-jump-statement JumpStatement.Continue = a-word Word.continue ++ write-statement-terminator
+show-jump-statement JumpStatement.Break = a-word Word.break ++ write-statement-terminator
+show-jump-statement JumpStatement.Discard = a-word Word.discard ++ write-statement-terminator
+show-jump-statement (JumpStatement.Return none) = a-word Word.return ++ write-statement-terminator
+show-jump-statement (JumpStatement.Return (some e)) = a-word Word.return ++ a-space ++ show-expr e ++ write-statement-terminator
+
+-- exactly one statement
+abbrev pub single-item : Statements → Bool
+single-item Statements.no-statements = false
+single-item (Statements.statements s Statements.no-statements) = true
+single-item (Statements.statements s (Statements.statements t ts)) = false
+
+-- 000 show_compound_statement, from the commands of its statements
+abbrev pub compound : (collapsed : Bool) → List Command → List Command
+compound true cs = enter-collapsed-compound-statement ++ (consume-function-definition-statement ∷ cs) ++ exit-collapsed-compound-statement
+compound false cs = enter-compound-statement-block ++ (consume-function-definition-statement ∷ cs) ++ exit-block
+
+module _ (collapse : Bool) where
+  unfoldable mutual
+    pub show-statement : Statement → List Command
+    show-statement Statement.no-statement = flush-line ∷ []
+    show-statement (Statement.OfDeclaration d) = flush-line ∷ show-declaration d
+    show-statement (Statement.Compound ss) = flush-line ∷ compound (collapse && single-item ss) (show-statements ss)
+    show-statement (Statement.Expression e) = flush-line ∷ show-optional e ++ write-statement-terminator
+    show-statement (Statement.If e s) =
+        flush-line ∷ a-word Word.if ++ write-statement-opening-parenthesis ++ show-expr e ++ write-statement-closing-parenthesis ++ show-statement s
+    show-statement (Statement.IfElse e s t) =
+        flush-line ∷ a-word Word.if ++ write-statement-opening-parenthesis ++ show-expr e ++ write-statement-closing-parenthesis ++ show-statement s ++ write-else ++ (consume-newline ∷ show-statement t)
+    show-statement (Statement.Switch e ss) =
+        flush-line ∷ a-word Word.switch ++ write-statement-opening-parenthesis ++ show-expr e ++ a-symbol Symbol.right-paren ++ enter-block ++ show-statements ss ++ exit-block
+    show-statement Statement.Default = flush-line ∷ a-word Word.default ++ enter-case-label
+    show-statement (Statement.Case e) = flush-line ∷ a-word Word.case ++ a-space ++ show-expr e ++ enter-case-label
+    show-statement (Statement.While c s) =
+        flush-line ∷ a-word Word.while ++ write-statement-opening-parenthesis ++ show-condition c ++ write-statement-closing-parenthesis ++ show-statement s
+    show-statement (Statement.DoWhile s e) =
+        flush-line ∷ a-word Word.«do» ++ a-space ++ show-statement s ++ a-space ++ a-word Word.while ++ write-statement-opening-parenthesis ++ show-expr e ++ a-symbol Symbol.right-paren ++ write-statement-terminator
+    show-statement (Statement.For i c e s) =
+        flush-line ∷ a-word Word.for ++ write-statement-opening-parenthesis ++ show-for-init-statement i ++ (flush-space ∷ show-for-condition c) ++ write-for-statement-separator ++ show-optional e ++ write-statement-closing-parenthesis ++ show-statement s
+    show-statement (Statement.OfJump j) = flush-line ∷ show-jump-statement j
+
+    pub show-statements : Statements → List Command
+    show-statements Statements.no-statements = []
+    show-statements (Statements.statements s ss) = show-statement s ++ show-statements ss
+
+  -- the unit
+
+  -- its body is never collapsed
+  unfoldable pub show-function-definition : FunctionPrototype → Statements → List Command
+  show-function-definition p ss =
+      show-function-prototype p ++ (enter-function-definition-statement ∷ compound false (show-statements ss)) ++ (flush-line ∷ write-function-definition-terminator)
+
+  unfoldable pub show-external-declaration : ExternalDeclaration → List Command
+  show-external-declaration ExternalDeclaration.no-external = enter-external-declaration
+  show-external-declaration (ExternalDeclaration.OfDeclaration d) = enter-external-declaration ++ show-declaration d
+  show-external-declaration (ExternalDeclaration.FunctionDefinition p ss) =
+      enter-external-declaration ++ show-function-definition p ss
+
+  unfoldable pub show-translation-unit : TranslationUnit → List Command
+  show-translation-unit [] = []
+  show-translation-unit (d ∷ ds) = show-external-declaration d ++ show-translation-unit ds

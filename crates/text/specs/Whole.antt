@@ -1,0 +1,16 @@
+-- The text of a unit and of an expression, from the bytes of settings, records and names. Assumes nothing.
+use mathlib.Core.List.{List}
+use Prim.Native.Nat.{ℕ}
+use Rattle.settings.specs.Settings.{settingsOf}
+use Rattle.settings.specs.State.{fresh}
+use Rattle.text.specs.Pen.{text}
+use Rattle.text.specs.Text.{show-expr, show-translation-unit}
+use Rattle.text.specs.Reading.{itemAt}
+
+unfoldable pub unitText : List ℕ → List ℕ → List ℕ → List ℕ
+unitText settings records names =
+    let s = settingsOf settings
+    in text s (show-translation-unit (s .«collapse_single_item_compound_statements») (itemAt records names 0 .unit .tree)) fresh
+
+unfoldable pub exprText : List ℕ → List ℕ → List ℕ → List ℕ
+exprText settings records names = text (settingsOf settings) (show-expr (itemAt records names 0 .expr .tree)) fresh

@@ -1,0 +1,12 @@
+pub mod V00
+pub mod V01
+pub mod V02
+pub mod V03
+pub mod V04
+pub mod V05
+pub mod V06
+pub mod V07
+pub mod V08
+pub mod V09
+pub mod V10
+pub mod V11

@@ -1,0 +1,65 @@
+-- What a vector says: the text of the definition is the Rust module's, the tree read at record 0 takes all records, and the joined question has the
+-- oracle's answer. Assumes nothing.
+use mathlib.Core.Path.{_≡_}
+use mathlib.Core.Bool.{Bool, true, false, cond}
+use mathlib.Core.List.{List, [], _∷_}
+use mathlib.Core.Option.{Option, none, some}
+use Prim.Native.Nat.{ℕ, _+_, _-_, _*_}
+use Prim.Native.Char.{code}
+use Prim.Native.String.{String}
+use lib.Dec.{ltb}
+use Rattle.words.specs.Bytes.{bytes}
+use Rattle.records.specs.Record.{recordCount}
+use Rattle.text.specs.Reading.{itemAt}
+use Rattle.text.specs.Whole.{unitText, exprText}
+use Rattle.text.specs.Joined.{joinedAnswer}
+
+-- the bytes of a text of pairs of hexadecimal digits
+abbrev digit : ℕ → ℕ
+digit c = cond (ltb c (code "a")) (c - code "0") (c - code "a" + 10)
+
+abbrev pairs : List ℕ → List ℕ
+pairs [] = []
+pairs (c ∷ []) = []
+pairs (c ∷ (d ∷ s)) = (16 * digit c + digit d) ∷ pairs s
+
+unfoldable pub hex : String → List ℕ
+hex s = pairs (bytes s)
+
+pub record Outcome : Type 0 where
+  pub text : List ℕ
+  pub joined : Option Bool
+
+-- one answer of the oracle: what was asked, by what bytes, and the outcome
+pub record Case : Type 0 where
+  pub is-unit : Bool
+  pub settings : List ℕ
+  pub records : List ℕ
+  pub names : List ℕ
+  pub outcome : Outcome
+
+abbrev case : Bool → Option Bool → String → String → String → String → Case
+case u j s r n t = record { is-unit = u; settings = hex s; records = hex r; names = bytes n; outcome = record { text = bytes t; joined = j } }
+
+-- settings and records in hex, names, text
+abbrev pub unit : String → String → String → String → Case
+unit = case true none
+
+abbrev pub expr : String → String → String → String → Case
+expr = case false (some false)
+
+abbrev pub joined-expr : String → String → String → String → Case
+joined-expr = case false (some true)
+
+unfoldable pub holds : Case → Outcome
+holds c = record {
+  text = cond (c .is-unit) (unitText (c .settings) (c .records) (c .names)) (exprText (c .settings) (c .records) (c .names));
+  joined = cond (c .is-unit) none (some (joinedAnswer (c .records) (c .names)));
+}
+
+abbrev pub sizeRead : Case → ℕ
+sizeRead c = cond (c .is-unit) (itemAt (c .records) (c .names) 0 .unit .size) (itemAt (c .records) (c .names) 0 .expr .size)
+
+pub record Vector (c : Case) : Type 0 where
+  pub outcome : holds c ≡ c .outcome
+  pub size : sizeRead c ≡ recordCount (c .records)

@@ -1,0 +1,91 @@
+#!/usr/bin/env python3
+"""vectors.py FILE [COUNT]: writes crates/vectors/proofs from the oracle's answers in FILE, as theorems by computation about the definition of the text.
+
+A line of FILE is: Expr or Unit, then settings, records, names and text in hex (`-` for none), then the answer to the joined question (0, 1; 2: not
+asked). The texts were written by the Rust module (000), the joined answers by a reference of its own.
+Of the lines so many are taken as COUNT says (300): first those that show a kind and variant, a settings value or a pair of parent and child
+kinds that none before has shown, shorter ones first; then the shortest of the others. Run it from the repository's root."""
+import glob
+import os
+import sys
+
+PER_MODULE = 25
+FOLDER = "crates/vectors/proofs"
+
+
+def unhex(word):
+    return b"" if word == "-" else bytes.fromhex(word)
+
+
+def read(line):
+    root, settings, records, names, text, joined = line.split()
+    return root, unhex(settings), unhex(records), unhex(names), unhex(text), joined
+
+
+def shown(vector):
+    """What a vector shows: kinds with variants, kinds that stand one behind the other, settings values."""
+    _, settings, records, _, _, _ = vector
+    kinds = [(records[i], records[i + 1]) for i in range(0, len(records), 12)]
+    pairs = {(a[0], b[0]) for a, b in zip(kinds, kinds[1:])}
+    return {("kind", k, v) for k, v in kinds} | {("pair", a, b) for a, b in pairs} | {("setting", i, b) for i, b in enumerate(settings)}
+
+
+def chosen(vectors, count):
+    vectors = sorted(vectors, key=lambda v: (len(v[2]) + len(v[3]), v))
+    kept, rest, seen = [], [], set()
+    for rank in ("kind", "setting", "pair"):
+        for vector in vectors:
+            new = {x for x in shown(vector) - seen if x[0] == rank}
+            if new and vector not in kept and len(kept) < count:
+                kept.append(vector)
+                seen |= shown(vector)
+    rest = [v for v in vectors if v not in kept]
+    return sorted(kept + rest[: max(0, count - len(kept))], key=lambda v: (len(v[2]), v))
+
+
+def quoted(data):
+    escapes = {"\n": "\\n", "\t": "\\t", '"': '\\"', "\\": "\\\\"}
+    return '"' + "".join(escapes.get(chr(b), chr(b)) for b in data) + '"'
+
+
+def module(first, vectors):
+    lines = [
+        "-- Texts of the Rust module. Made by tools/vectors.py. Assumes nothing.",
+        "use mathlib.Core.Path.{refl}",
+        "use Rattle.text.proofs.Computing.{computing}",
+        "use Rattle.vectors.specs.Vector.{Vector, expr, joined-expr, unit, holds, hex}",
+        "",
+    ]
+    for i, (root, settings, records, names, text, joined) in enumerate(vectors, first):
+        sort = {"Unit2": "unit", "Expr0": "expr", "Expr1": "joined-expr"}[root + joined]
+        lines += [
+            f'pub v{i} : Vector ({sort} "{settings.hex()}"',
+            f'    "{records.hex()}"',
+            f"    {quoted(names)}",
+            f"    {quoted(text)})",
+            "unfolding computing holds hex",
+            f"v{i} = record {{ outcome = refl; size = refl }}",
+            "",
+        ]
+    return "\n".join(lines)
+
+
+def main():
+    with open(sys.argv[1], encoding="ascii") as file:
+        vectors = [read(line) for line in file]
+    vectors = chosen(vectors, int(sys.argv[2]) if len(sys.argv) > 2 else 300)
+    for old in glob.glob(FOLDER + "/V*.antt"):
+        os.remove(old)
+    names = []
+    for first in range(0, len(vectors), PER_MODULE):
+        names.append(f"V{first // PER_MODULE:02}")
+        with open(f"{FOLDER}/{names[-1]}.antt", "w", encoding="utf-8") as file:
+            file.write(module(first, vectors[first : first + PER_MODULE]))
+    with open(FOLDER + "/Lib.antt", "w", encoding="utf-8") as file:
+        file.write("".join(f"pub mod {name}\n" for name in names))
+    seen = set().union(*(shown(v) for v in vectors))
+    for rank in ("kind", "setting", "pair"):
+        print(f"{rank}: {sum(1 for x in seen if x[0] == rank)} shown")
+
+
+main()
