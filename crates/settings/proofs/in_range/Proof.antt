@@ -15,10 +15,10 @@ abbrev μ-loop : tie.MeasureT-loop
 μ-loop bytes limits k₀ k = length limits - k
 
 returns : tie.Need-returns Inv-loop μ-loop
-returns c = sym (range-other-length _ _ (c .if1 .taken))
+returns c = sym (range-other-length _ _ (λ e. omega arith))
 
 loop-holds : tie.Need-loop-holds Inv-loop μ-loop
-loop-holds c = (c .if1 .left, refl)
+loop-holds c = (omega arith, refl)
 
 shared-slice-read-if2 : tie.Need-shared-slice-read-if2 Inv-loop μ-loop
 shared-slice-read-if2 c = omega arith
