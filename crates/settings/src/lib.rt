@@ -1,4 +1,8 @@
 // The settings of the text, and the state that goes with them: 000's IndentStyle, Whitespace, FormattingSettings and FormattingState.
+ghost use mathlib.Core.Path.{_≡_};
+ghost use lib.ListN.{length};
+ghost use Rattle.settings.specs.Settings.{limits, inRange, styleOf, whitespaceOf, settingsOf, readSettings, TIGHT, OPEN};
+ghost use Rattle.settings.specs.State.{fresh};
 
 // What a level is indented with. (000 keeps the count in here; a record may give a count without a style, so it is a field beside.)
 pub enum IndentStyle {
@@ -38,7 +42,7 @@ pub struct Settings {
     pub spaces_surrounding_statement_parentheses: bool,
 }
 
-// The answer to bytes that are asked to be a settings record. A refusal is number 1 at place 0.
+// The answer to bytes that are asked to be a settings record. specs/Answer.antt gives the paper's number of each case.
 pub enum SettingsRead {
     Read(Settings),
     Refused,
@@ -49,4 +53,197 @@ pub struct FormattingState {
     pub indentation_level: u16,
     pub new_line_pending: bool,
     pub in_function_definition_statement: bool,
+}
+
+// The highest value of a byte that says a style, a count, a flag, a Whitespace.
+const STYLE: u8 = 2;
+
+const WIDEST_INDENT: u8 = 16;
+
+const FLAG: u8 = 1;
+
+const WHITE: u8 = 2;
+
+// The highest value of each byte of a settings record, in the order of the fields.
+const LIMITS: [u8; 21] = [
+    STYLE,
+    WIDEST_INDENT,
+    FLAG,
+    FLAG,
+    FLAG,
+    FLAG,
+    FLAG,
+    FLAG,
+    WHITE,
+    WHITE,
+    WHITE,
+    WHITE,
+    FLAG,
+    WHITE,
+    WHITE,
+    FLAG,
+    FLAG,
+    FLAG,
+    FLAG,
+    FLAG,
+    FLAG,
+];
+
+// Whether there are as many bytes as limits, each at most its limit.
+fn in_range(bytes: &[u8], limits: &[u8]) -> bool
+    ensures { λ r. ⌜ r ≡ inRange (now (bytes .entry)) (now (limits .entry)) ⌝ }
+{
+    if bytes.len() != limits.len() {
+        return false;
+    }
+    let mut k = 0;
+    while k < limits.len() {
+        if limits[k] < bytes[k] {
+            return false;
+        }
+        k += 1;
+    }
+    true
+}
+
+fn style_of(byte: u8) -> IndentStyle
+    ensures { λ r. ⌜ r ≡ styleOf byte ⌝ }
+{
+    if byte == 0 {
+        return IndentStyle::None;
+    }
+    if byte == 1 {
+        return IndentStyle::Tabs;
+    }
+    IndentStyle::Spaces
+}
+
+fn whitespace_of(byte: u8) -> Whitespace
+    ensures { λ r. ⌜ r ≡ whitespaceOf byte ⌝ }
+{
+    if byte == 0 {
+        return Whitespace::None;
+    }
+    if byte == 1 {
+        return Whitespace::Space;
+    }
+    Whitespace::Newline
+}
+
+impl Settings {
+    // 01's TIGHT: all zero. It is not 000's minifying(), which collapses.
+    pub const TIGHT: Settings = Settings {
+        indent_style: IndentStyle::None,
+        count: 0,
+        space_before_open_block: false,
+        newline_after_open_block: false,
+        newline_before_close_block: false,
+        newline_after_close_block: false,
+        newline_after_collapsed_statement: false,
+        newline_before_collapsed_statement: false,
+        struct_field_separator: Whitespace::None,
+        struct_declaration_terminator: Whitespace::None,
+        declaration_terminator: Whitespace::None,
+        case_label_terminator: Whitespace::None,
+        spaces_around_binary_ops: false,
+        statement_terminator: Whitespace::None,
+        function_definition_terminator: Whitespace::None,
+        collapse_single_item_compound_statements: false,
+        space_before_else: false,
+        space_after_list_separator: false,
+        space_after_for_statement_separator: false,
+        spaces_surrounding_initializer_list_expressions: false,
+        spaces_surrounding_statement_parentheses: false,
+    };
+
+    // 01's OPEN: 000's default, byte for byte.
+    pub const OPEN: Settings = Settings {
+        indent_style: IndentStyle::Spaces,
+        count: 4,
+        space_before_open_block: true,
+        newline_after_open_block: true,
+        newline_before_close_block: true,
+        newline_after_close_block: true,
+        newline_after_collapsed_statement: true,
+        newline_before_collapsed_statement: true,
+        struct_field_separator: Whitespace::Newline,
+        struct_declaration_terminator: Whitespace::Newline,
+        declaration_terminator: Whitespace::Newline,
+        case_label_terminator: Whitespace::Newline,
+        spaces_around_binary_ops: true,
+        statement_terminator: Whitespace::Newline,
+        function_definition_terminator: Whitespace::Newline,
+        collapse_single_item_compound_statements: false,
+        space_before_else: true,
+        space_after_list_separator: true,
+        space_after_for_statement_separator: true,
+        spaces_surrounding_initializer_list_expressions: true,
+        spaces_surrounding_statement_parentheses: true,
+    };
+
+    // The constants with a contract: a caller's proof sees a function's promise, not a constant's value.
+    pub fn tight() -> Settings
+        ensures { λ r. ⌜ r ≡ settingsOf TIGHT ⌝ }
+    {
+        Settings::TIGHT
+    }
+
+    pub fn open() -> Settings
+        ensures { λ r. ⌜ r ≡ settingsOf OPEN ⌝ }
+    {
+        Settings::OPEN
+    }
+
+    // The settings that a record says. Only `read` calls it, after the test of range.
+    fn of(bytes: &[u8]) -> Settings
+        requires { ⌜ length (now bytes) ≡ 21 ⌝ }
+        ensures { λ r. ⌜ r ≡ settingsOf (now (bytes .entry)) ⌝ }
+    {
+        Settings {
+            indent_style: style_of(bytes[0]),
+            count: bytes[1],
+            space_before_open_block: bytes[2] == 1,
+            newline_after_open_block: bytes[3] == 1,
+            newline_before_close_block: bytes[4] == 1,
+            newline_after_close_block: bytes[5] == 1,
+            newline_after_collapsed_statement: bytes[6] == 1,
+            newline_before_collapsed_statement: bytes[7] == 1,
+            struct_field_separator: whitespace_of(bytes[8]),
+            struct_declaration_terminator: whitespace_of(bytes[9]),
+            declaration_terminator: whitespace_of(bytes[10]),
+            case_label_terminator: whitespace_of(bytes[11]),
+            spaces_around_binary_ops: bytes[12] == 1,
+            statement_terminator: whitespace_of(bytes[13]),
+            function_definition_terminator: whitespace_of(bytes[14]),
+            collapse_single_item_compound_statements: bytes[15] == 1,
+            space_before_else: bytes[16] == 1,
+            space_after_list_separator: bytes[17] == 1,
+            space_after_for_statement_separator: bytes[18] == 1,
+            spaces_surrounding_initializer_list_expressions: bytes[19] == 1,
+            spaces_surrounding_statement_parentheses: bytes[20] == 1,
+        }
+    }
+
+    // Reads a settings record.
+    pub fn read(bytes: &[u8]) -> SettingsRead
+        ensures { λ r. ⌜ r ≡ readSettings (now (bytes .entry)) ⌝ }
+    {
+        // Lent as a local: indexed in place, the constant would be rebuilt at every step.
+        let limits = LIMITS;
+        if in_range(bytes, &limits) {
+            return SettingsRead::Read(Settings::of(bytes));
+        }
+        SettingsRead::Refused
+    }
+
+    // The state that a text starts in, the same for all settings (000's From<&FormattingSettings>).
+    pub fn fresh_state(self) -> FormattingState
+        ensures { λ r. ⌜ r ≡ fresh ⌝ }
+    {
+        FormattingState {
+            indentation_level: 0,
+            new_line_pending: false,
+            in_function_definition_statement: false,
+        }
+    }
 }

@@ -1,0 +1,40 @@
+-- Records that are read, and records that are refused with number 1 at place 0, by computation. Assumes nothing.
+use mathlib.Core.Path.{_≡_, refl}
+use mathlib.Core.List.{List, [], _∷_, _++_, map}
+use Prim.Native.Nat.{ℕ}
+use lib.ListN.{take, set}
+use Rattle.settings.specs.declared.SettingsRead.the-variants as Answer
+use Rattle.settings.specs.Settings.{limits, inRange, settingsOf, readSettings, TIGHT, OPEN}
+use Rattle.settings.specs.Answer.{refusalNumber, refusalPlace}
+
+-- TIGHT with byte k put to b
+abbrev tightBut : ℕ → ℕ → List ℕ
+tightBut k b = set TIGHT k b
+
+-- the two constants, and a count of 16 without a style
+abbrev good : List (List ℕ)
+good = TIGHT ∷ OPEN ∷ tightBut 1 16 ∷ []
+
+pub good-read : map readSettings good ≡ map (λ (bs : List ℕ). Answer.Read (settingsOf bs)) good
+unfolding readSettings inRange limits
+good-read = refl
+
+-- no bytes, 20, 22, a style of 3, a count of 17, a flag of 2
+abbrev bad : List (List ℕ)
+bad = [] ∷ take 20 TIGHT ∷ (TIGHT ++ 0 ∷ []) ∷ tightBut 0 3 ∷ tightBut 1 17 ∷ tightBut 20 2 ∷ []
+
+pub bad-refused : map readSettings bad ≡ map (λ (bs : List ℕ). Answer.Refused) bad
+unfolding readSettings inRange limits
+bad-refused = refl
+
+pub good-numbers : map (λ (bs : List ℕ). refusalNumber (readSettings bs)) good ≡ 0 ∷ 0 ∷ 0 ∷ []
+unfolding readSettings inRange limits
+good-numbers = refl
+
+pub bad-numbers : map (λ (bs : List ℕ). refusalNumber (readSettings bs)) bad ≡ 1 ∷ 1 ∷ 1 ∷ 1 ∷ 1 ∷ 1 ∷ []
+unfolding readSettings inRange limits
+bad-numbers = refl
+
+pub no-places : map (λ (bs : List ℕ). refusalPlace (readSettings bs)) bad ≡ 0 ∷ 0 ∷ 0 ∷ 0 ∷ 0 ∷ 0 ∷ []
+unfolding readSettings inRange limits
+no-places = refl

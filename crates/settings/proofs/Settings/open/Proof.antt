@@ -1,0 +1,12 @@
+-- The constant is what the paper's bytes say, by computation.
+use mathlib.Core.Path.{refl}
+use Rattle.settings.specs.Settings.{styleOf, whitespaceOf, settingsOf}
+use Rattle.settings.proofs.Settings.open.Statement.{statement}
+use Rattle.settings.proofs.Settings.open.Tie as tie
+
+returns : tie.Need-returns
+unfolding styleOf whitespaceOf settingsOf
+returns c = refl
+
+pub open-spec : {M : Type 1} → statement M
+open-spec = tie.close (tie.spec returns)
