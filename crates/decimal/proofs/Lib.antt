@@ -1,0 +1,4 @@
+pub mod Laws
+pub mod Places
+pub mod Room
+pub mod Sign
