@@ -12,6 +12,7 @@ use mir.Syntax.{w32, w64}
 use mir.Val.{Fits, SFits, toZ, ofZ}
 use mir.Facts.{toZ-ofZ, toZ-pos}
 use Rattle.decimal.specs.Decimal.{negative, signed, magnitude}
+use Rattle.decimal.proofs.Laws.{below-or-from}
 
 -- -1 - k
 pub less-one : (k : ℕ) → negsuc 0 -ℤ pos k ≡ negsuc k
@@ -21,11 +22,9 @@ less-one (suc k) = ap negsuc (omega arith)
 -- the magnitude of 32 bits is that of the number they stand for
 pub magnitude-signed : (a : ℕ) → a < 2 ^ 32 → natAbs (signed a) ≡ magnitude a
 unfolding signed magnitude
-magnitude-signed a h = go (negative a) refl
-  where
-    go : (b : Bool) → negative a ≡ b → natAbs (cond b (negsuc (2 ^ 32 - 1 - a)) (pos a)) ≡ cond b (2 ^ 32 - a) a
-    go true e = omega arith
-    go false e = refl
+magnitude-signed a h =
+    below-or-from (λ (m : ℕ). natAbs (signed m) ≡ magnitude m) (2 ^ 31) a (λ p. simp (le-ltb (2 ^ 31 - 1) a (omega arith)))
+    (λ p. simp (lt-ltb (2 ^ 31 - 1) a (omega arith)) (omega arith))
 
 -- x as an i32, widened to an i64
 abbrev pub widened : ℤ → ℤ

@@ -1,5 +1,5 @@
 -- The decimal text of a number, and 32 bits as a signed number. Assumes nothing.
-use mathlib.Core.Bool.{Bool, cond}
+use mathlib.Core.Bool.{Bool, true, false, cond}
 use mathlib.Core.List.{List, [], _∷_, _++_}
 use Prim.Native.Nat.{ℕ, zero, suc, _+_, _-_, _*_, _/_, _%_, _^_}
 use Prim.Native.Char.{code}
@@ -10,10 +10,11 @@ use lib.Dec.{ltb}
 abbrev pub digit : ℕ → ℕ
 digit d = code "0" + d
 
--- the digits of n, highest first, if there are at most w + 1 of them
+-- the digits of n, highest first, if there are at most w + 1 of them (by `elim`, which computes only the case that holds: then texts of 32 bits can be
+-- computed)
 unfoldable pub digits : (w : ℕ) → ℕ → List ℕ
 digits zero n = digit n ∷ []
-digits (suc w) n = cond (ltb n 10) (digit n ∷ []) (digits w (n / 10) ++ (digit (n % 10) ∷ []))
+digits (suc w) n = elim (ltb n 10) [ true ↦ digit n ∷ [] | false ↦ digits w (n / 10) ++ (digit (n % 10) ∷ []) ]
 
 -- a number has no more digits than its value and one
 unfoldable pub decimal : ℕ → List ℕ
