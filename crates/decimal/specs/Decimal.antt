@@ -10,7 +10,8 @@ use lib.Dec.{ltb}
 abbrev pub digit : ℕ → ℕ
 digit d = code "0" + d
 
--- the digits of n, highest first, if there are at most w + 1 of them
+-- the digits of n, highest first, if there are at most w + 1 of them (by `elim`, which computes only the case that holds: then texts of 32 bits can be
+-- computed)
 unfoldable pub digits : (w : ℕ) → ℕ → List ℕ
 digits zero n = digit n ∷ []
 digits (suc w) n = elim (ltb n 10) [ true ↦ digit n ∷ [] | false ↦ digits w (n / 10) ++ (digit (n % 10) ∷ []) ]

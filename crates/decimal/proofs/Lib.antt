@@ -1,0 +1,5 @@
+pub mod Examples
+pub mod Laws
+pub mod Places
+pub mod Room
+pub mod Sign
