@@ -1,11 +1,11 @@
--- Records that are read, and records that are refused with number 1 at place 0, by computation. Assumes nothing.
+-- Records that are read, and records that are refused with number 1, by computation. Assumes nothing.
 use mathlib.Core.Path.{_≡_, refl}
 use mathlib.Core.List.{List, [], _∷_, _++_, map}
 use Prim.Native.Nat.{ℕ}
 use lib.ListN.{take, set}
 use Rattle.settings.specs.declared.SettingsRead.the-variants as Answer
 use Rattle.settings.specs.Settings.{limits, inRange, settingsOf, readSettings, TIGHT, OPEN}
-use Rattle.settings.specs.Answer.{refusalNumber, refusalPlace}
+use Rattle.settings.specs.Answer.{refusalNumber}
 
 -- TIGHT with byte k put to b
 abbrev tightBut : ℕ → ℕ → List ℕ
@@ -27,14 +27,7 @@ pub bad-refused : map readSettings bad ≡ map (λ (bs : List ℕ). Answer.Refus
 unfolding readSettings inRange limits
 bad-refused = refl
 
-pub good-numbers : map (λ (bs : List ℕ). refusalNumber (readSettings bs)) good ≡ 0 ∷ 0 ∷ 0 ∷ []
-unfolding readSettings inRange limits
-good-numbers = refl
-
+-- the paper's numbers of the bad ones
 pub bad-numbers : map (λ (bs : List ℕ). refusalNumber (readSettings bs)) bad ≡ 1 ∷ 1 ∷ 1 ∷ 1 ∷ 1 ∷ 1 ∷ []
 unfolding readSettings inRange limits
 bad-numbers = refl
-
-pub no-places : map (λ (bs : List ℕ). refusalPlace (readSettings bs)) bad ≡ 0 ∷ 0 ∷ 0 ∷ 0 ∷ 0 ∷ 0 ∷ []
-unfolding readSettings inRange limits
-no-places = refl

@@ -1,3 +1,4 @@
 pub mod Examples
 pub mod Range
+pub mod Refusal
 pub mod RoundTrip

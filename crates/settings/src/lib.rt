@@ -4,7 +4,7 @@ ghost use lib.ListN.{length};
 ghost use Rattle.settings.specs.Settings.{limits, inRange, styleOf, whitespaceOf, settingsOf, readSettings, TIGHT, OPEN};
 ghost use Rattle.settings.specs.State.{fresh};
 
-// What a level is indented with. (000 keeps the count in here; a record may give a count without a style, so it is a field beside.)
+// What a level is indented with. (000 keeps the count in here; a record may give a count without a style, so it is a field beside. 000's tab_size is never read.)
 pub enum IndentStyle {
     None,
     Tabs,
@@ -48,7 +48,7 @@ pub enum SettingsRead {
     Refused,
 }
 
-// The state of the line layout. 000 has two more fields, which only directives use; they come with request #101.
+// The state of the line layout. 000 holds the settings in it too; here they go beside it. Its two more fields are used by directives alone; they come with request #101.
 pub struct FormattingState {
     pub indentation_level: u16,
     pub new_line_pending: bool,
@@ -156,7 +156,7 @@ impl Settings {
         spaces_surrounding_statement_parentheses: false,
     };
 
-    // 01's OPEN: 000's default, byte for byte.
+    // 01's OPEN: everything apart, four spaces a level, no collapse.
     pub const OPEN: Settings = Settings {
         indent_style: IndentStyle::Spaces,
         count: 4,

@@ -1,6 +1,6 @@
--- Loop: what is left to test from k on equals the test of all.
+-- Loop: what is left to test from k on equals the test of all. Assumes nothing.
 use mathlib.Core.Path.{_≡_, refl, sym}
-use Prim.Native.Nat.{ℕ, _≤_, _<_, _-_}
+use Prim.Native.Nat.{_-_}
 use native.Mathlib.Omega.{arith}
 use lib.ListN.{length, drop}
 use Rattle.settings.specs.Settings.{inRange}

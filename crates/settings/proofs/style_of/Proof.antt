@@ -1,4 +1,4 @@
--- The tests are those of styleOf, in its order.
+-- The tests are those of styleOf, in its order. Assumes nothing.
 use borrow.Author.Tests.{eq-eqb, ne-eqb}
 use Rattle.settings.specs.Settings.{styleOf}
 use Rattle.settings.proofs.style_of.Statement.{statement}

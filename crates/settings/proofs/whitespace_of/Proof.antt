@@ -1,4 +1,4 @@
--- The tests are those of whitespaceOf, in its order.
+-- The tests are those of whitespaceOf, in its order. Assumes nothing.
 use borrow.Author.Tests.{eq-eqb, ne-eqb}
 use Rattle.settings.specs.Settings.{whitespaceOf}
 use Rattle.settings.proofs.whitespace_of.Statement.{statement}

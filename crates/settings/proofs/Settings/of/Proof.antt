@@ -1,4 +1,4 @@
--- Each byte is inside the record; the fields are those of settingsOf, where the callees' results are put in from the last to the first.
+-- Each byte is inside the record; the fields are those of settingsOf, where the callees' results are put in from the last to the first. Assumes nothing.
 use borrow.Author.Needs.{needs}
 use Rattle.settings.specs.Settings.{settingsOf}
 use Rattle.settings.proofs.Settings.of.Statement.{statement}

@@ -1,5 +1,5 @@
--- The test of range is readSettings'; in range there are 21 bytes, which `of` asks for.
-use mathlib.Core.Path.{refl, sym, _∙_}
+-- The test of range is readSettings'; in range there are 21 bytes, which `of` asks for. Assumes nothing.
+use mathlib.Core.Path.{sym, _∙_}
 use borrow.Author.Needs.{needs}
 use Rattle.settings.specs.Settings.{limits, readSettings}
 use Rattle.settings.proofs.Range.{range-length}

@@ -1,0 +1,25 @@
+-- The refusal is number 1 exactly for bytes out of range, and its place is always 0. Assumes nothing.
+use mathlib.Core.Path.{_≡_, refl}
+use mathlib.Core.List.{List}
+use mathlib.Core.Bool.{Bool, true, false, cond}
+use Prim.Native.Nat.{ℕ}
+use Rattle.settings.specs.declared.Settings.{Settings}
+use Rattle.settings.specs.declared.SettingsRead.the-variants as Answer
+use Rattle.settings.specs.Settings.{limits, inRange, settingsOf, readSettings}
+use Rattle.settings.specs.Answer.{refusalNumber, refusalPlace}
+
+number-by : (good : Bool) (s : Settings) → refusalNumber (cond good (Answer.Read s) Answer.Refused) ≡ cond good 0 1
+number-by true s = refl
+number-by false s = refl
+
+place-by : (good : Bool) (s : Settings) → refusalPlace (cond good (Answer.Read s) Answer.Refused) ≡ 0
+place-by true s = refl
+place-by false s = refl
+
+pub number-of : (bs : List ℕ) → refusalNumber (readSettings bs) ≡ cond (inRange bs limits) 0 1
+unfolding readSettings
+number-of bs = number-by (inRange bs limits) (settingsOf bs)
+
+pub place-of : (bs : List ℕ) → refusalPlace (readSettings bs) ≡ 0
+unfolding readSettings
+place-of bs = place-by (inRange bs limits) (settingsOf bs)
