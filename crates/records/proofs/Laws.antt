@@ -1,14 +1,15 @@
 -- The laws of records: where one stands, what stands behind the last, how large its fields are. Assumes nothing.
 use mathlib.Core.Path.{_≡_, refl, sym, _∙_, ap}
-use mathlib.Core.Bool.{Bool, true, false, cond}
+use mathlib.Core.Bool.{Bool, true, false}
 use mathlib.Core.List.{List, []}
-use Prim.Native.Nat.{ℕ, _+_, _*_, _/_, _≤_, _<_, _^_}
+use Prim.Native.Nat.{ℕ, _+_, _*_, _≤_, _<_, _^_}
 use native.Mathlib.Omega.{arith}
-use lib.ListN.{length, getD, take, drop}
+use lib.ListN.{length, getD, take, drop, length-drop}
+use lib.Seq.{length-take-le}
 use lib.Dec.{leb, ltb}
 use borrow.Author.Tests.{lt-ltb, le-ltb, le-leb, lt-leb, leb-true, leb-false, ltb-true, ltb-false}
 use Rattle.records.specs.declared.Record.{Record}
-use Rattle.records.specs.Record.{recordIn, recordCount, recordAt, no-record, part}
+use Rattle.records.specs.Record.{recordIn, recordCount, recordAt, no-record, part, textOf, nameAt}
 
 -- 12 bytes a record: as many bytes as n records take are n records
 pub count-whole : (bs : List ℕ) (n : ℕ) → length bs ≡ 12 * n → recordCount bs ≡ n
@@ -73,6 +74,13 @@ module _ (names : List ℕ) (a b : ℕ) where
   pub part-beyond : length names < a + b → part names a b ≡ []
   unfolding part
   part-beyond h = simp (lt-leb (a + b) (length names) h)
+
+  pub length-within : a + b ≤ length names → length (part names a b) ≡ b
+  length-within h = ap length (part-within h) ∙ length-take-le b (drop a names) (simp length-drop (omega arith))
+
+-- 01, "Calls": a name is empty if no whole record stands there
+pub name-behind : (bs names : List ℕ) (i : ℕ) → recordCount bs ≤ i → nameAt bs names i ≡ []
+name-behind bs names i h = ap (textOf names) (record-behind bs i h) ∙ part-within names 0 0 (omega arith)
 
 -- the fields are no larger than their bits, where the bytes are bytes
 pub record Small (r : Record) : Type 0 where
