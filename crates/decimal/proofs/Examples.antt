@@ -1,12 +1,11 @@
 -- Numbers worked by computation: the edges of 32 and 64 bits. Assumes nothing.
 use mathlib.Core.Path.{_≡_, refl}
-use mathlib.Core.Bool.{true, false}
-use mathlib.Core.List.{List, [], _∷_}
-use Prim.Native.Nat.{ℕ, _-_, _^_}
+use mathlib.Core.List.{[], _∷_}
+use Prim.Native.Nat.{_-_, _^_}
 use Prim.Native.Char.{code}
 use lib.IntN.{pos, negsuc}
 use lib.ListN.{length}
-use Rattle.decimal.specs.Decimal.{digits, decimal, negative, magnitude, signed}
+use Rattle.decimal.specs.Decimal.{digits, decimal, magnitude, signed}
 use Rattle.decimal.specs.Room.{laid}
 
 -- the least i32, -2147483648: its magnitude fits no i32, and its text with the sign has eleven characters

@@ -11,7 +11,7 @@ use lib.Dec.{ltb}
 use borrow.Author.Tests.{lt-ltb, le-ltb, ltb-true, ltb-false}
 use Rattle.decimal.specs.Decimal.{digit, digits, decimal, value}
 
--- what holds of numbers below 10, and of those from 10 on, holds of all
+-- a case for the numbers below a limit, and one for those from it on
 pub below-or-from : (P : ℕ → Type 0) (limit n : ℕ) → (n < limit → P n) → (limit ≤ n → P n) → P n
 below-or-from P limit n small big = go (ltb n limit) refl
   where

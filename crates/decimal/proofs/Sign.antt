@@ -1,18 +1,19 @@
 -- 32 bits as a signed number, and an i32 that is widened to an i64 and negated there. Assumes nothing.
 use mathlib.Core.Path.{_≡_, refl, sym, _∙_, ap, subst}
-use mathlib.Core.Bool.{Bool, true, false, cond}
-use Prim.Native.Nat.{ℕ, zero, suc, _≤_, _<_, _+_, _-_, _*_, _^_}
+use mathlib.Core.Bool.{Bool, true, false}
+use Prim.Native.Nat.{ℕ, zero, suc, _≤_, _<_, _-_, _^_}
 use native.Mathlib.Omega.{arith}
 use native.Mathlib.Nat.{zero-add}
-use lib.Dec.{T, ltb}
-use borrow.Author.Tests.{lt-ltb, le-ltb, ltb-true, ltb-false}
+use lib.ListN.{length}
+use lib.Dec.{T}
+use borrow.Author.Tests.{lt-ltb, le-ltb, ltb-true}
 use lib.IntN.{ℤ, pos, negsuc, _-ℤ_, natAbs}
-use lib.Signed.{mag, ltZ, nonNeg}
+use lib.Signed.{ltZ, nonNeg}
 use mir.Syntax.{w32, w64}
 use mir.Val.{Fits, SFits, toZ, ofZ}
 use mir.Facts.{toZ-ofZ, toZ-pos}
-use Rattle.decimal.specs.Decimal.{negative, signed, magnitude}
-use Rattle.decimal.proofs.Laws.{below-or-from}
+use Rattle.decimal.specs.Decimal.{decimal, signed, magnitude}
+use Rattle.decimal.proofs.Laws.{below-or-from, at-most-10}
 
 -- -1 - k
 pub less-one : (k : ℕ) → negsuc 0 -ℤ pos k ≡ negsuc k
@@ -25,6 +26,16 @@ unfolding signed magnitude
 magnitude-signed a h =
     below-or-from (λ (m : ℕ). natAbs (signed m) ≡ magnitude m) (2 ^ 31) a (λ p. simp (le-ltb (2 ^ 31 - 1) a (omega arith)))
     (λ p. simp (lt-ltb (2 ^ 31 - 1) a (omega arith)) (omega arith))
+
+-- no 32 bits are farther from 0 than the least i32, and no magnitude has more than 10 digits
+pub magnitude-at-most : (a : ℕ) → magnitude a ≤ 2 ^ 31
+unfolding magnitude
+magnitude-at-most a =
+    below-or-from (λ (m : ℕ). magnitude m ≤ 2 ^ 31) (2 ^ 31) a (λ p. simp (le-ltb (2 ^ 31 - 1) a (omega arith)) (omega arith))
+    (λ p. simp (lt-ltb (2 ^ 31 - 1) a (omega arith)) (omega arith))
+
+pub magnitude-digits : (a : ℕ) → length (decimal (magnitude a)) ≤ 10
+magnitude-digits a = at-most-10 (magnitude a) (omega (arith, magnitude-at-most a))
 
 -- x as an i32, widened to an i64
 abbrev pub widened : ℤ → ℤ

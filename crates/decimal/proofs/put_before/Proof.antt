@@ -6,7 +6,7 @@ use borrow.Author.Needs.{needs}
 use lib.ListN.{length, length-set}
 use lib.Seq.{sets}
 use Rattle.decimal.specs.Decimal.{digit, decimal}
-use Rattle.decimal.proofs.Laws.{length-big, length-small, length-positive}
+use Rattle.decimal.proofs.Laws.{length-big, length-positive}
 use Rattle.decimal.proofs.Places.{ending, ending-big, ending-small}
 use Rattle.decimal.proofs.put_before.Statement.{statement}
 use Rattle.decimal.proofs.put_before.Tie as tie

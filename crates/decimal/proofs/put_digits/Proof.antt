@@ -3,7 +3,6 @@ use mathlib.Core.Path.{sym, _∙_, ap}
 use Prim.Native.Nat.{ℕ, _-_}
 use native.Mathlib.Omega.{arith}
 use borrow.Author.Needs.{needs}
-use lib.ListN.{length}
 use lib.Seq.{sets}
 use Rattle.decimal.specs.Decimal.{decimal}
 use Rattle.decimal.proofs.Room.{laid-fits, laid-out}

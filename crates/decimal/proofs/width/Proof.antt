@@ -1,10 +1,10 @@
 -- `decimal::width` meets its contract. The invariant: the digits counted and those of what is left are one more than all. Assumes nothing.
 use mathlib.Core.Path.{_≡_}
-use Prim.Native.Nat.{ℕ, _+_}
+use Prim.Native.Nat.{_+_}
 use native.Mathlib.Omega.{arith}
 use lib.ListN.{length}
 use Rattle.decimal.specs.Decimal.{decimal}
-use Rattle.decimal.proofs.Laws.{length-big, length-small, length-positive, at-most-20}
+use Rattle.decimal.proofs.Laws.{length-big, length-small, at-most-20}
 use Rattle.decimal.proofs.width.Statement.{statement}
 use Rattle.decimal.proofs.width.Tie as tie
 
