@@ -18,9 +18,10 @@ pub data Flag : Type 0 where
   spaces-surrounding-initializer-list-expressions : Flag
   spaces-surrounding-statement-parentheses : Flag
 
--- but for struct_declaration_terminator, which only show_struct reads (01 leaves it out)
+-- struct_declaration_terminator is asked for by show_struct alone, which 01 leaves out
 pub data Gap : Type 0 where
   struct-field-separator : Gap
+  struct-declaration-terminator : Gap
   declaration-terminator : Gap
   case-label-terminator : Gap
   statement-terminator : Gap
@@ -42,6 +43,7 @@ flag s spaces-surrounding-statement-parentheses = s .«spaces_surrounding_statem
 
 unfoldable pub gap : Settings → Gap → Whitespace
 gap s struct-field-separator = s .«struct_field_separator»
+gap s struct-declaration-terminator = s .«struct_declaration_terminator»
 gap s declaration-terminator = s .«declaration_terminator»
 gap s case-label-terminator = s .«case_label_terminator»
 gap s statement-terminator = s .«statement_terminator»

@@ -5,7 +5,7 @@ use Rattle.words.specs.Symbol.{Symbol}
 use Rattle.text.specs.Token.{Token}
 use Rattle.text.specs.Asked.{Flag, Gap}
 use Rattle.text.specs.Asked.Flag.{space-before-open-block, newline-after-open-block, newline-before-close-block, newline-after-close-block, newline-after-collapsed-statement, newline-before-collapsed-statement, spaces-around-binary-ops, space-before-else, space-after-list-separator, space-after-for-statement-separator, spaces-surrounding-initializer-list-expressions, spaces-surrounding-statement-parentheses}
-use Rattle.text.specs.Asked.Gap.{struct-field-separator, declaration-terminator, case-label-terminator, statement-terminator, function-definition-terminator}
+use Rattle.text.specs.Asked.Gap.{struct-field-separator, struct-declaration-terminator, declaration-terminator, case-label-terminator, statement-terminator, function-definition-terminator}
 
 pub data Command : Type 0 where
   token : Token → Command
@@ -77,11 +77,18 @@ write-list-separator = symbol Symbol.comma ∷ space-if space-after-list-separat
 abbrev pub write-for-statement-separator : List Command
 write-for-statement-separator = symbol Symbol.semicolon ∷ space-if space-after-for-statement-separator ∷ []
 
+abbrev pub write-struct-declaration-terminator : List Command
+write-struct-declaration-terminator = symbol Symbol.semicolon ∷ whitespace struct-declaration-terminator ∷ []
+
 abbrev pub write-declaration-terminator : List Command
 write-declaration-terminator = symbol Symbol.semicolon ∷ whitespace declaration-terminator ∷ []
 
+-- 000 takes any text for the operator
+abbrev pub write-binary-token : Token → List Command
+write-binary-token op = space-if spaces-around-binary-ops ∷ token op ∷ space-if spaces-around-binary-ops ∷ []
+
 abbrev pub write-binary-op : Symbol → List Command
-write-binary-op op = space-if spaces-around-binary-ops ∷ symbol op ∷ space-if spaces-around-binary-ops ∷ []
+write-binary-op op = write-binary-token (Token.symbol op)
 
 abbrev pub write-statement-terminator : List Command
 write-statement-terminator = symbol Symbol.semicolon ∷ whitespace statement-terminator ∷ []

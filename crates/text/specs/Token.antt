@@ -27,9 +27,12 @@ unfoldable pub has : ℕ → List ℕ → Bool
 has c [] = false
 has c (b ∷ bs) = cond (eqb b c) true (has c bs)
 
+abbrev pub point : ℕ
+point = code "."
+
 -- a point behind it, where none stands in it (01, "Tree records"; 000 show_float, show_double)
 unfoldable pub pointed : List ℕ → List ℕ
-pointed t = cond (has (code ".") t) t (t ++ bytes ".")
+pointed t = cond (has point t) t (t ++ bytes ".")
 
 unfoldable pub spell : Token → List ℕ
 spell (name n) = n

@@ -1,0 +1,14 @@
+use Rattle.pen.proofs.Lay.{fits-behind, fits-not}
+-- `fits` meets its contract. Assumes nothing.
+use native.Mathlib.Omega.{arith}
+use Rattle.pen.proofs.room.fits.Statement.{statement}
+use Rattle.pen.proofs.room.fits.Tie as tie
+
+returns : tie.Need-returns
+returns c = fits-not _ _ _ (c .if1 .taken)
+
+returns-2 : tie.Need-returns-2
+returns-2 c = fits-behind _ _ _ (c .if1 .left)
+
+pub fits-spec : {M : Type 1} → statement M
+fits-spec = tie.close (tie.spec returns returns-2)
