@@ -1,10 +1,12 @@
 #!/usr/bin/env python3
-"""vectors.py FILE [COUNT]: writes crates/vectors/proofs from the oracle's answers in FILE, as theorems by computation about the definition of the text.
+"""vectors.py FILE [COUNT [KEPT]]: writes crates/vectors/proofs from the oracle's answers in FILE, as theorems by computation about the definition of the
+text.
 
 A line of FILE is: Expr or Unit, then settings, records, names and text in hex (`-` for none), then the answer to the joined question (0, 1; 2: not
 asked). The texts were written by the Rust module (000), the joined answers by a reference of its own.
 Of the lines so many are taken as COUNT says (300): first those that show a kind and variant, a settings value or a pair of parent and child
-kinds that none before has shown, shorter ones first; then the shortest of the others. Run it from the repository's root."""
+kinds that none before has shown, shorter ones first; then the shortest of the others. All lines of KEPT are taken besides: cases that someone
+looked for. Run it from the repository's root."""
 import glob
 import os
 import sys
@@ -20,6 +22,11 @@ def unhex(word):
 def read(line):
     root, settings, records, names, text, joined = line.split()
     return root, unhex(settings), unhex(records), unhex(names), unhex(text), joined
+
+
+def lines(path):
+    with open(path, encoding="ascii") as file:
+        return [read(line) for line in file]
 
 
 def shown(vector):
@@ -71,9 +78,8 @@ def module(first, vectors):
 
 
 def main():
-    with open(sys.argv[1], encoding="ascii") as file:
-        vectors = [read(line) for line in file]
-    vectors = chosen(vectors, int(sys.argv[2]) if len(sys.argv) > 2 else 300)
+    count = int(sys.argv[2]) if len(sys.argv) > 2 else 300
+    vectors = chosen(lines(sys.argv[1]), count) + (lines(sys.argv[3]) if len(sys.argv) > 3 else [])
     for old in glob.glob(FOLDER + "/V*.antt"):
         os.remove(old)
     names = []

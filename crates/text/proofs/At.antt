@@ -12,7 +12,7 @@ use Rattle.text.specs.Text.{single-item}
 use lib.ListN.{drop}
 use Rattle.records.specs.Record.{recordAt, recordCount, no-record}
 use Rattle.text.specs.Tree.{Expr, Exprs, Statement, Statements}
-use Rattle.text.specs.Reading.{Read, Item, Reader, first, items, itemOf, from, itemAt, joined, _and_, give, several, unaryOp, binaryOp, assignmentOp, exprOf, typeOf, baseOf, arrayOf, dimensionOf, fieldOf, identifierOf, qualifierOf, specOf, layoutIdOf, fullTypeOf, prototypeOf, parameterOf, declaratorsOf, singleOf, declaratorOf, initializerOf, blockOf, declarationOf, compoundOf, statementOf, conditionOf, forInitOf, externalOf, unitOf, expr, callee, statement, counted, made}
+use Rattle.text.specs.Reading.{Read, Item, Reader, first, items, itemOf, from, itemAt, applied, _and_, give, several, unaryOp, binaryOp, assignmentOp, exprOf, typeOf, baseOf, arrayOf, dimensionOf, fieldOf, identifierOf, qualifierOf, specOf, layoutIdOf, fullTypeOf, prototypeOf, parameterOf, declaratorsOf, singleOf, declaratorOf, initializerOf, blockOf, declarationOf, compoundOf, statementOf, conditionOf, forInitOf, externalOf, unitOf, expr, callee, statement, counted, made}
 
 below : {A : Type 0} (i n : ℕ) → (i < n → A) → (n ≤ i → A) → A
 below i n f g = ⊎-elim (λ (e : n - i ≡ 0). g (omega arith)) (λ (h : 0 < n - i). f (omega arith)) (eq-zero-or-pos (n - i))
@@ -49,33 +49,12 @@ module _ (rs ns : List ℕ) where
       (λ h. rw (from-out i h) (sym (from-out (i + suc k) (omega arith))))
 
   -- ONE law for the parts of every kind: the next part is read where those before it end
-  pub and-at : {A B : Type 0} (f : Reader (A → B)) (p : Reader A) (i : ℕ) → (f and p) (from rs ns i) ≡ joined (f (from rs ns i)) (p (from rs ns (i + f (from rs ns i) .size)))
-  and-at f p i = ap (λ (L : List Item). joined (f (from rs ns i)) (p L)) (from-drop (f (from rs ns i) .size) i)
-
-  -- a binary expression, as an example of a kind
-  pub binary-at : (i : ℕ) → recordAt rs i .kind ≡ 8 →
-      itemAt rs ns i .expr ≡ counted ((give (Expr.Binary (binaryOp (recordAt rs i .variant))) and expr and expr) (from rs ns (i + 1)))
-  unfolding exprOf itemOf
-  binary-at i e = rw (item-at i, e) refl
+  pub and-at : {A B : Type 0} (f : Reader (A → B)) (p : Reader A) (i : ℕ) → (f and p) (from rs ns i) ≡ applied (f (from rs ns i)) (p (from rs ns (i + f (from rs ns i) .size)))
+  and-at f p i = ap (λ (L : List Item). applied (f (from rs ns i)) (p L)) (from-drop (f (from rs ns i) .size) i)
 
   -- the first part is read where the parts begin
   pub part-at : {A B : Type 0} (f : A → B) (p : Reader A) (i : ℕ) → (give f and p) (from rs ns i) ≡ made f (p (from rs ns i))
   part-at {B = B} f p i = ap (λ (n : ℕ). made {A = ℕ} {B = B} (λ x. f (p (from rs ns i) .tree)) (record { tree = n; size = n })) (zero-add (p (from rs ns i) .size))
-
-  -- the same, part by part
-  pub binary-parts : (i : ℕ) → recordAt rs i .kind ≡ 8 →
-      itemAt rs ns i .expr .tree ≡ Expr.Binary (binaryOp (recordAt rs i .variant)) (itemAt rs ns (i + 1) .expr .tree) (itemAt rs ns (i + 1 + itemAt rs ns (i + 1) .expr .size) .expr .tree)
-  binary-parts i e =
-      ap (λ (x : Read Expr). x .tree) (binary-at i e)
-      ∙ ap (λ (x : Read Expr). x .tree) (and-at (give (Expr.Binary (binaryOp (recordAt rs i .variant))) and expr) expr (i + 1))
-      ∙ rw (zero-add (itemAt rs ns (i + 1) .expr .size)) refl
-
-  pub binary-size : (i : ℕ) → recordAt rs i .kind ≡ 8 →
-      itemAt rs ns i .expr .size ≡ 1 + (itemAt rs ns (i + 1) .expr .size + itemAt rs ns (i + 1 + itemAt rs ns (i + 1) .expr .size) .expr .size)
-  binary-size i e =
-      ap (λ (x : Read Expr). x .size) (binary-at i e)
-      ∙ ap (λ (x : Read Expr). 1 + x .size) (and-at (give (Expr.Binary (binaryOp (recordAt rs i .variant))) and expr) expr (i + 1))
-      ∙ rw (zero-add (itemAt rs ns (i + 1) .expr .size)) refl
 
   -- the parts of a list: one, and those behind it
   pub several-at : {A B : Type 0} (n : ℕ) (p : Reader A) (end : B) (more : A → B → B) (i : ℕ) →

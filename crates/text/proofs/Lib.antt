@@ -1,5 +1,6 @@
 pub mod Computing
 pub mod Rows
+pub mod Orders
 pub mod OnlyLayout
 pub mod Append
 pub mod At

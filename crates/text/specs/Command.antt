@@ -17,7 +17,7 @@ pub data Command : Type 0 where
   newline-if : Flag → Command
   -- what a Whitespace asks for: nothing, a space, or a pending newline
   whitespace : Gap → Command
-  -- the indent of the level; a newline and the indent, whatever is pending
+  -- the indent of the level; a newline and the indent, whatever is pending (no printer asks for them: flush-line does)
   write-indent write-line : Command
   -- a pending newline: is written, with the indent; is written as a space; is forgotten
   flush-line flush-space consume-newline : Command
@@ -32,7 +32,9 @@ word w = token (Token.word w)
 abbrev pub symbol : Symbol → Command
 symbol y = token (Token.symbol y)
 
--- FormattingState's methods, in 000's order; those that are one command have its name
+-- FormattingState's methods, in 000's order but for enter_block_inner, which two of them use. Those that are one command have its name: write_indent,
+-- write_line, flush_line, flush_space, consume_newline, enter_ and consume_function_definition_statement; new_line is `newline-if`. With directives
+-- (02, #101) come move_to_empty_line and exit_external_declaration.
 
 abbrev pub enter-block-inner : List Command
 enter-block-inner = symbol Symbol.left-brace ∷ indent ∷ newline-if newline-after-open-block ∷ []
@@ -77,6 +79,7 @@ write-list-separator = symbol Symbol.comma ∷ space-if space-after-list-separat
 abbrev pub write-for-statement-separator : List Command
 write-for-statement-separator = symbol Symbol.semicolon ∷ space-if space-after-for-statement-separator ∷ []
 
+-- show_struct alone calls it, which 01 leaves out
 abbrev pub write-struct-declaration-terminator : List Command
 write-struct-declaration-terminator = symbol Symbol.semicolon ∷ whitespace struct-declaration-terminator ∷ []
 

@@ -126,5 +126,5 @@ unfoldable mutual
   joined-id LayoutQualifierSpec.Shared = false
 
 -- the answer, from the bytes of records and names
-unfoldable pub joinedAnswer : List ℕ → List ℕ → Bool
+unfoldable pub joinedAnswer : (records names : List ℕ) → Bool
 joinedAnswer records names = joined (itemAt records names 0 .expr .tree)

@@ -95,11 +95,11 @@ give a L = nothing a
 abbrev pub made : {A B : Type 0} → (A → B) → Read A → Read B
 made f x = record { tree = f (x .tree); size = x .size }
 
-abbrev pub joined : {A B : Type 0} → Read (A → B) → Read A → Read B
-joined f x = record { tree = f .tree (x .tree); size = f .size + x .size }
+abbrev pub applied : {A B : Type 0} → Read (A → B) → Read A → Read B
+applied f x = record { tree = f .tree (x .tree); size = f .size + x .size }
 
 abbrev pub behind : {A B : Type 0} → Read (A → B) → Reader A → Reader B
-behind f p L = joined f (p (drop (f .size) L))
+behind f p L = applied f (p (drop (f .size) L))
 
 infixl 20 _and_
 abbrev pub _and_ : {A B : Type 0} → Reader (A → B) → Reader A → Reader B
@@ -131,8 +131,8 @@ counted x = record { tree = x .tree; size = 1 + x .size }
 abbrev pub kind : {A : Type 0} → ℕ → Reader A → Row A
 kind k p = record { number = k; reading = λ L. counted (p L) }
 
-abbrev pub same : {A B : Type 0} → ℕ → (A → B) → Reader A → Row B
-same k f p = record { number = k; reading = λ L. made f (p L) }
+abbrev pub as-sort : {A B : Type 0} → ℕ → (A → B) → Reader A → Row B
+as-sort k f p = record { number = k; reading = λ L. made f (p L) }
 
 -- a record of another kind is none of the sort
 abbrev pub by-kind : {A : Type 0} → ℕ → A → List (Row A) → Reader A
@@ -229,7 +229,7 @@ abbrev pub qualification-if : Bool → Reader Qualification
 qualification-if true = give Qualification.qualified and qualifier
 qualification-if false = give Qualification.unqualified
 
--- variants: a number beyond a table is read as its last
+-- variants. One that is out of range is refused (7), so what it is read as never matters: here it is the last.
 unfoldable pub unaryOp : ℕ → UnaryOp
 unaryOp v = getD (UnaryOp.Inc ∷ UnaryOp.Dec ∷ UnaryOp.Add ∷ UnaryOp.Minus ∷ UnaryOp.Not ∷ []) v UnaryOp.Complement
 
@@ -387,8 +387,8 @@ module _ (names : List ℕ) (r : Record) where
 
   unfoldable pub statementOf : Reader Statement
   statementOf = by-kind (r .kind) Statement.no-statement (
-      same 47 Statement.OfDeclaration declarationOf
-      ∷ same 60 Statement.Compound compoundOf
+      as-sort 47 Statement.OfDeclaration declarationOf
+      ∷ as-sort 60 Statement.Compound compoundOf
       ∷ kind 61 (give Statement.Expression and maybe (eqb v 1) expr)
       ∷ kind 62 (by-variant v (at 0 (give Statement.If and expr and statement) ∷ []) (give Statement.IfElse and expr and statement and statement))
       ∷ kind 63 (give Statement.Switch and expr and several n statement Statements.no-statements Statements.statements)
@@ -410,7 +410,7 @@ module _ (names : List ℕ) (r : Record) where
       ∷ [])
 
   unfoldable pub externalOf : Reader ExternalDeclaration
-  externalOf = by-kind (r .kind) ExternalDeclaration.no-external (same 47 ExternalDeclaration.OfDeclaration declarationOf ∷ kind 81 (give ExternalDeclaration.FunctionDefinition and prototype and compound) ∷ [])
+  externalOf = by-kind (r .kind) ExternalDeclaration.no-external (as-sort 47 ExternalDeclaration.OfDeclaration declarationOf ∷ kind 81 (give ExternalDeclaration.FunctionDefinition and prototype and compound) ∷ [])
 
   unfoldable pub unitOf : Reader TranslationUnit
   unitOf = by-kind (r .kind) [] (kind 80 (several n external [] _∷_) ∷ [])

@@ -1,4 +1,5 @@
--- The text of each tree, as commands: the printers of 000, in its order and under its names. Assumes nothing.
+-- The text of each tree, as commands: the printers of 000. A definition `show-..` is 000's function of that name; where a name is ours, a comment says
+-- which function it is a part of. What is used stands above what uses it. Assumes nothing.
 use mathlib.Core.Bool.{Bool, true, false, not, _&&_, _||_, cond}
 use mathlib.Core.List.{List, [], _∷_, _++_}
 use mathlib.Core.Option.{Option, none, some}
@@ -13,23 +14,23 @@ use Rattle.text.specs.Command.Command.{token, space, flush-line, flush-s
 use Rattle.text.specs.Tree.{Identifier, UnaryOp, BinaryOp, AssignmentOp, Expr, Exprs, FunIdentifier, TypeSpecifier, TypeSpecifiers, TypeSpecifierNonArray, ArraySpecifier, ArraySpecifierDimension, StructFieldSpecifier, StructFieldSpecifiers, ArrayedIdentifier, ArrayedIdentifiers, Qualification, TypeQualifier, TypeQualifierSpec, LayoutQualifier, LayoutQualifierSpec, FullySpecifiedType, FunctionParameterDeclaration, FunctionPrototype, Initializer, Initializers, SingleDeclaration, SingleDeclarationNoType, InitDeclaratorList, Block, Declaration, Condition, ForInitStatement, JumpStatement, Statement, Statements, ExternalDeclaration, TranslationUnit}
 
 -- 000 HasPrecedence: the smaller the number, the stronger it binds
-abbrev pub atomic : ℕ
-atomic = 0
+abbrev pub atomic-precedence : ℕ
+atomic-precedence = 0
 
-abbrev pub postfix : ℕ
-postfix = 2
+abbrev pub postfix-precedence : ℕ
+postfix-precedence = 2
 
-abbrev pub prefix : ℕ
-prefix = 3
+abbrev pub unary-precedence : ℕ
+unary-precedence = 3
 
-abbrev pub ternary : ℕ
-ternary = 15
+abbrev pub ternary-precedence : ℕ
+ternary-precedence = 15
 
-abbrev pub assignment : ℕ
-assignment = 16
+abbrev pub assignment-precedence : ℕ
+assignment-precedence = 16
 
-abbrev pub comma : ℕ
-comma = 17
+abbrev pub comma-precedence : ℕ
+comma-precedence = 17
 
 unfoldable pub binary-precedence : BinaryOp → ℕ
 binary-precedence BinaryOp.Mult = 4
@@ -53,23 +54,23 @@ binary-precedence BinaryOp.Xor = 13
 binary-precedence BinaryOp.Or = 14
 
 unfoldable pub precedence : Expr → ℕ
-precedence Expr.no-expr = atomic
-precedence (Expr.Variable i) = atomic
-precedence (Expr.IntConst n) = atomic
-precedence (Expr.UIntConst n) = atomic
-precedence (Expr.BoolConst b) = atomic
-precedence (Expr.FloatConst t) = atomic
-precedence (Expr.DoubleConst t) = atomic
-precedence (Expr.Unary op e) = prefix
+precedence Expr.no-expr = atomic-precedence
+precedence (Expr.Variable i) = atomic-precedence
+precedence (Expr.IntConst n) = atomic-precedence
+precedence (Expr.UIntConst n) = atomic-precedence
+precedence (Expr.BoolConst b) = atomic-precedence
+precedence (Expr.FloatConst t) = atomic-precedence
+precedence (Expr.DoubleConst t) = atomic-precedence
+precedence (Expr.Unary op e) = unary-precedence
 precedence (Expr.Binary op l r) = binary-precedence op
-precedence (Expr.Ternary c s e) = ternary
-precedence (Expr.Assignment op v e) = assignment
-precedence (Expr.Bracket e a) = postfix
-precedence (Expr.FunCall f es) = postfix
-precedence (Expr.Dot i e) = postfix
-precedence (Expr.PostInc e) = postfix
-precedence (Expr.PostDec e) = postfix
-precedence (Expr.Comma a b) = comma
+precedence (Expr.Ternary c s e) = ternary-precedence
+precedence (Expr.Assignment op v e) = assignment-precedence
+precedence (Expr.Bracket e a) = postfix-precedence
+precedence (Expr.FunCall f es) = postfix-precedence
+precedence (Expr.Dot i e) = postfix-precedence
+precedence (Expr.PostInc e) = postfix-precedence
+precedence (Expr.PostDec e) = postfix-precedence
+precedence (Expr.Comma a b) = comma-precedence
 
 -- show_unary_op, show_binary_op, show_assignment_op
 
@@ -115,10 +116,10 @@ assignment-symbol AssignmentOp.And = Symbol.and-assign
 assignment-symbol AssignmentOp.Xor = Symbol.xor-assign
 assignment-symbol AssignmentOp.Or = Symbol.or-assign
 
--- small lists
+-- small lists, for `write!`, `f.write_char` and `f.write_str`
 
-abbrev pub one : Token → List Command
-one t = token t ∷ []
+abbrev pub a-token : Token → List Command
+a-token t = token t ∷ []
 
 abbrev pub a-word : Word → List Command
 a-word w = word w ∷ []
@@ -130,33 +131,33 @@ abbrev pub a-space : List Command
 a-space = space ∷ []
 
 abbrev pub show-identifier : Identifier → List Command
-show-identifier i = one (Token.name i)
+show-identifier i = a-token (Token.name i)
 
 -- (..) and [..]
 abbrev pub parenthesized : List Command → List Command
 parenthesized cs = a-symbol Symbol.left-paren ++ cs ++ a-symbol Symbol.right-paren
 
-abbrev pub bracketed : List Command → List Command
-bracketed cs = a-symbol Symbol.left-bracket ++ cs ++ a-symbol Symbol.right-bracket
+abbrev pub in-square-brackets : List Command → List Command
+in-square-brackets cs = a-symbol Symbol.left-bracket ++ cs ++ a-symbol Symbol.right-bracket
 
--- where it is bare it stands as it is, elsewhere in parentheses
+-- an operand: where it is bare it stands as it is, elsewhere in parentheses
 abbrev pub bare-if : Bool → List Command → List Command
 bare-if true cs = cs
 bare-if false cs = parenthesized cs
 
--- a separator, before each but the first
+-- in a list: a separator before each but the first, which 000 takes off the iterator
 abbrev pub separator : (first : Bool) → List Command
 separator true = []
 separator false = write-list-separator
 
--- a space, before each but the first
+-- in a qualifier: a space before each but the first
 abbrev pub space-between : (first : Bool) → List Command
 space-between true = []
 space-between false = a-space
 
--- an i32 from its 32 bits: a negative number's sign is a token of its own
+-- in show_expr: an i32 from its 32 bits. A negative number's sign is a token of its own.
 abbrev pub show-int : ℕ → List Command
-show-int n = cond (negative n) (symbol Symbol.dash ∷ one (Token.int (magnitude n))) (one (Token.int (magnitude n)))
+show-int n = cond (negative n) (symbol Symbol.dash ∷ a-token (Token.int (magnitude n))) (a-token (Token.int (magnitude n)))
 
 abbrev pub bool-word : Bool → Word
 bool-word true = Word.true
@@ -178,7 +179,7 @@ is-minus UnaryOp.Minus = true
 is-minus UnaryOp.Not = false
 is-minus UnaryOp.Complement = false
 
--- plus over plus and minus over minus, which would read as ++ and --
+-- in show_expr: plus over plus and minus over minus, which would read as ++ and --
 unfoldable pub doubled : UnaryOp → UnaryOp → Bool
 doubled op o = is-add op && is-add o || is-minus op && is-minus o
 
@@ -206,20 +207,23 @@ unfoldable pub doubles : UnaryOp → Option UnaryOp → Bool
 doubles op none = false
 doubles op (some o) = doubled op o
 
--- the name of a struct, if it has one
+-- in show_struct_non_declaration: the name, if it has one
 abbrev pub show-name : Option Identifier → List Command
 show-name none = []
 show-name (some i) = show-identifier i
 
-abbrev pub is-nil : TypeSpecifiers → Bool
-is-nil TypeSpecifiers.no-types = true
-is-nil (TypeSpecifiers.types t ts) = false
+-- in show_subroutine
+abbrev pub without-types : TypeSpecifiers → Bool
+without-types TypeSpecifiers.no-types = true
+without-types (TypeSpecifiers.types t ts) = false
 
--- types, structs, arrays, qualifiers and expressions
+-- Types, structs, arrays, qualifiers and expressions call each other. Inside are also: show_type_name, show_struct_non_declaration (clause Struct),
+-- show_storage_qualifier, show_subroutine, show_layout_qualifier, show_precision_qualifier and show_interpolation_qualifier (clauses of
+-- show-type-qualifier-spec), show_float and show_double (tokens, spelled in Token.antt). A plural is the loop over what it lists.
 unfoldable mutual
   pub show-type-specifier-non-array : TypeSpecifierNonArray → List Command
   show-type-specifier-non-array TypeSpecifierNonArray.no-base = []
-  show-type-specifier-non-array (TypeSpecifierNonArray.Keyword v) = one (Token.type v)
+  show-type-specifier-non-array (TypeSpecifierNonArray.Keyword v) = a-token (Token.type v)
   show-type-specifier-non-array (TypeSpecifierNonArray.TypeName i) = show-identifier i
   show-type-specifier-non-array (TypeSpecifierNonArray.Struct i fs) =
       a-word Word.struct ++ a-space ++ show-name i ++ enter-block ++ show-struct-fields fs ++ exit-block
@@ -246,8 +250,8 @@ unfoldable mutual
 
   pub show-dimension : ArraySpecifierDimension → List Command
   show-dimension ArraySpecifierDimension.no-dimension = []
-  show-dimension ArraySpecifierDimension.Unsized = bracketed []
-  show-dimension (ArraySpecifierDimension.ExplicitlySized e) = bracketed (show-expr e)
+  show-dimension ArraySpecifierDimension.Unsized = in-square-brackets []
+  show-dimension (ArraySpecifierDimension.ExplicitlySized e) = in-square-brackets (show-expr e)
 
   pub show-arrayed-identifier : ArrayedIdentifier → List Command
   show-arrayed-identifier ArrayedIdentifier.no-identifier = []
@@ -270,7 +274,7 @@ unfoldable mutual
   show-type-qualifier-spec TypeQualifierSpec.no-spec = []
   show-type-qualifier-spec (TypeQualifierSpec.Storage q) = a-word (Word.storage q)
   show-type-qualifier-spec (TypeQualifierSpec.Subroutine ts) =
-      a-word Word.subroutine ++ cond (is-nil ts) [] (parenthesized (show-type-specifiers ts true))
+      a-word Word.subroutine ++ cond (without-types ts) [] (parenthesized (show-type-specifiers ts true))
   show-type-qualifier-spec (TypeQualifierSpec.Layout is) = a-word Word.layout ++ parenthesized (show-layout-ids is true)
   show-type-qualifier-spec (TypeQualifierSpec.Precision p) = a-word (Word.precision-qualifier p)
   show-type-qualifier-spec (TypeQualifierSpec.Interpolation i) = a-word (Word.interpolation i)
@@ -291,23 +295,23 @@ unfoldable mutual
   show-expr Expr.no-expr = []
   show-expr (Expr.Variable i) = show-identifier i
   show-expr (Expr.IntConst n) = show-int n
-  show-expr (Expr.UIntConst n) = one (Token.uint n)
+  show-expr (Expr.UIntConst n) = a-token (Token.uint n)
   show-expr (Expr.BoolConst b) = a-word (bool-word b)
-  show-expr (Expr.FloatConst t) = one (Token.float t)
-  show-expr (Expr.DoubleConst t) = one (Token.double t)
-  show-expr (Expr.Unary op e) = a-symbol (unary-symbol op) ++ bare-if (leb (precedence e) prefix && not (doubles op (unary-op e))) (show-expr e)
+  show-expr (Expr.FloatConst t) = a-token (Token.float t)
+  show-expr (Expr.DoubleConst t) = a-token (Token.double t)
+  show-expr (Expr.Unary op e) = a-symbol (unary-symbol op) ++ bare-if (leb (precedence e) unary-precedence && not (doubles op (unary-op e))) (show-expr e)
   show-expr (Expr.Binary op l r) =
       bare-if (leb (precedence l) (binary-precedence op)) (show-expr l) ++ write-binary-op (binary-symbol op) ++ bare-if (ltb (precedence r) (binary-precedence op)) (show-expr r)
   show-expr (Expr.Ternary c s e) =
-      bare-if (ltb (precedence c) ternary) (show-expr c) ++ write-binary-op Symbol.question ++ show-expr s ++ write-binary-op Symbol.colon ++ bare-if (leb (precedence e) ternary) (show-expr e)
+      bare-if (ltb (precedence c) ternary-precedence) (show-expr c) ++ write-binary-op Symbol.question ++ show-expr s ++ write-binary-op Symbol.colon ++ bare-if (leb (precedence e) ternary-precedence) (show-expr e)
   show-expr (Expr.Assignment op v e) =
-      bare-if (ltb (precedence v) assignment) (show-expr v) ++ write-binary-op (assignment-symbol op) ++ bare-if (leb (precedence e) assignment) (show-expr e)
-  show-expr (Expr.Bracket e a) = bare-if (leb (precedence e) postfix) (show-expr e) ++ bracketed (show-expr a)
+      bare-if (ltb (precedence v) assignment-precedence) (show-expr v) ++ write-binary-op (assignment-symbol op) ++ bare-if (leb (precedence e) assignment-precedence) (show-expr e)
+  show-expr (Expr.Bracket e a) = bare-if (leb (precedence e) postfix-precedence) (show-expr e) ++ in-square-brackets (show-expr a)
   show-expr (Expr.FunCall f es) = show-function-identifier f ++ parenthesized (show-exprs es true)
-  show-expr (Expr.Dot i e) = bare-if (leb (precedence e) postfix) (show-expr e) ++ a-symbol Symbol.dot ++ show-identifier i
-  show-expr (Expr.PostInc e) = bare-if (ltb (precedence e) postfix) (show-expr e) ++ a-symbol Symbol.inc-op
-  show-expr (Expr.PostDec e) = bare-if (ltb (precedence e) postfix) (show-expr e) ++ a-symbol Symbol.dec-op
-  show-expr (Expr.Comma a b) = bare-if (leb (precedence a) comma) (show-expr a) ++ write-list-separator ++ bare-if (ltb (precedence b) comma) (show-expr b)
+  show-expr (Expr.Dot i e) = bare-if (leb (precedence e) postfix-precedence) (show-expr e) ++ a-symbol Symbol.dot ++ show-identifier i
+  show-expr (Expr.PostInc e) = bare-if (ltb (precedence e) postfix-precedence) (show-expr e) ++ a-symbol Symbol.inc-op
+  show-expr (Expr.PostDec e) = bare-if (ltb (precedence e) postfix-precedence) (show-expr e) ++ a-symbol Symbol.dec-op
+  show-expr (Expr.Comma a b) = bare-if (leb (precedence a) comma-precedence) (show-expr a) ++ write-list-separator ++ bare-if (ltb (precedence b) comma-precedence) (show-expr b)
 
   pub show-exprs : Exprs → (first : Bool) → List Command
   show-exprs Exprs.no-exprs first = []
@@ -323,6 +327,7 @@ unfoldable pub show-fully-specified-type : FullySpecifiedType → List Command
 show-fully-specified-type FullySpecifiedType.no-full-type = []
 show-fully-specified-type (FullySpecifiedType.full-type q t) = show-qualification q ++ show-type-specifier t
 
+-- with show_function_parameter_declarator
 unfoldable pub show-function-parameter-declaration : FunctionParameterDeclaration → List Command
 show-function-parameter-declaration FunctionParameterDeclaration.no-parameter = []
 show-function-parameter-declaration (FunctionParameterDeclaration.Unnamed q t) = show-qualification q ++ show-type-specifier t
@@ -347,11 +352,12 @@ unfoldable mutual
   show-initializers Initializers.no-initializers first = []
   show-initializers (Initializers.initializers i is) first = separator first ++ show-initializer i ++ show-initializers is false
 
--- the name of the first declarator
+-- in show_single_declaration: the name
 abbrev pub show-declared : Option Identifier → List Command
 show-declared none = []
 show-declared (some i) = a-space ++ show-identifier i
 
+-- in show_single_declaration and show_single_declaration_no_type: the initializer
 unfoldable pub show-initialized : Option Initializer → List Command
 show-initialized none = []
 show-initialized (some i) = write-binary-op Symbol.equal ++ show-initializer i
@@ -364,6 +370,7 @@ unfoldable pub show-single-declaration-no-type : SingleDeclarationNoType → Lis
 show-single-declaration-no-type SingleDeclarationNoType.no-declarator = []
 show-single-declaration-no-type (SingleDeclarationNoType.declarator i e) = show-arrayed-identifier i ++ show-initialized e
 
+-- in show_init_declarator_list: those behind the head
 unfoldable pub show-tail : List SingleDeclarationNoType → List Command
 show-tail [] = []
 show-tail (d ∷ ds) = write-list-separator ++ show-single-declaration-no-type d ++ show-tail ds
@@ -372,6 +379,7 @@ unfoldable pub show-init-declarator-list : InitDeclaratorList → List Command
 show-init-declarator-list InitDeclaratorList.no-declarators = []
 show-init-declarator-list (InitDeclaratorList.declarators d ds) = show-single-declaration d ++ show-tail ds
 
+-- in show_block: the identifier behind the fields
 unfoldable pub show-block-name : Option ArrayedIdentifier → List Command
 show-block-name none = []
 show-block-name (some i) = show-arrayed-identifier i
@@ -393,9 +401,10 @@ show-declaration (Declaration.TypeOnly q) = show-type-qualifier q true ++ write-
 
 -- statements
 
-unfoldable pub show-optional : Option Expr → List Command
-show-optional none = []
-show-optional (some e) = show-expr e
+-- what is there or not, in show_expression_statement, show_for_init_statement and show_for_rest_statement
+unfoldable pub show-optional-expr : Option Expr → List Command
+show-optional-expr none = []
+show-optional-expr (some e) = show-expr e
 
 unfoldable pub show-condition : Condition → List Command
 show-condition Condition.no-condition = []
@@ -405,12 +414,13 @@ show-condition (Condition.Assignment i t e) =
 
 unfoldable pub show-for-init-statement : ForInitStatement → List Command
 show-for-init-statement ForInitStatement.no-for-init = []
-show-for-init-statement (ForInitStatement.Expression e) = show-optional e ++ write-for-statement-separator
+show-for-init-statement (ForInitStatement.Expression e) = show-optional-expr e ++ write-for-statement-separator
 show-for-init-statement (ForInitStatement.OfDeclaration d) = show-declaration d
 
-unfoldable pub show-for-condition : Option Condition → List Command
-show-for-condition none = []
-show-for-condition (some c) = show-condition c
+-- in show_for_rest_statement
+unfoldable pub show-optional-condition : Option Condition → List Command
+show-optional-condition none = []
+show-optional-condition (some c) = show-condition c
 
 unfoldable pub show-jump-statement : JumpStatement → List Command
 show-jump-statement JumpStatement.Continue = a-word Word.continue ++ write-statement-terminator
@@ -419,24 +429,29 @@ show-jump-statement JumpStatement.Discard = a-word Word.discard ++ write-stateme
 show-jump-statement (JumpStatement.Return none) = a-word Word.return ++ write-statement-terminator
 show-jump-statement (JumpStatement.Return (some e)) = a-word Word.return ++ a-space ++ show-expr e ++ write-statement-terminator
 
--- exactly one statement
+-- in show_compound_statement: exactly one statement
 abbrev pub single-item : Statements → Bool
 single-item Statements.no-statements = false
 single-item (Statements.statements s Statements.no-statements) = true
 single-item (Statements.statements s (Statements.statements t ts)) = false
 
--- 000 show_compound_statement, from the commands of its statements
+-- show_compound_statement, from the commands of its statements. 000 collapses where the setting says so, there is one statement, and no function's body
+-- begins here: the last is known to whoever calls.
 abbrev pub compound : (collapsed : Bool) → List Command → List Command
 compound true cs = enter-collapsed-compound-statement ++ (consume-function-definition-statement ∷ cs) ++ exit-collapsed-compound-statement
 compound false cs = enter-compound-statement-block ++ (consume-function-definition-statement ∷ cs) ++ exit-block
 
+-- `collapse` is the one setting that decides which commands there are
 module _ (collapse : Bool) where
+  -- Inside are: show_expression_statement, show_selection_statement with show_selection_rest_statement (If, IfElse), show_switch_statement,
+  -- show_case_label (Default, Case), show_iteration_statement with show_for_rest_statement (While, DoWhile, For). What is no statement flushes all the
+  -- same: 000 flushes before it looks.
   unfoldable mutual
     pub show-statement : Statement → List Command
     show-statement Statement.no-statement = flush-line ∷ []
     show-statement (Statement.OfDeclaration d) = flush-line ∷ show-declaration d
     show-statement (Statement.Compound ss) = flush-line ∷ compound (collapse && single-item ss) (show-statements ss)
-    show-statement (Statement.Expression e) = flush-line ∷ show-optional e ++ write-statement-terminator
+    show-statement (Statement.Expression e) = flush-line ∷ show-optional-expr e ++ write-statement-terminator
     show-statement (Statement.If e s) =
         flush-line ∷ a-word Word.if ++ write-statement-opening-parenthesis ++ show-expr e ++ write-statement-closing-parenthesis ++ show-statement s
     show-statement (Statement.IfElse e s t) =
@@ -450,7 +465,7 @@ module _ (collapse : Bool) where
     show-statement (Statement.DoWhile s e) =
         flush-line ∷ a-word Word.«do» ++ a-space ++ show-statement s ++ a-space ++ a-word Word.while ++ write-statement-opening-parenthesis ++ show-expr e ++ a-symbol Symbol.right-paren ++ write-statement-terminator
     show-statement (Statement.For i c e s) =
-        flush-line ∷ a-word Word.for ++ write-statement-opening-parenthesis ++ show-for-init-statement i ++ (flush-space ∷ show-for-condition c) ++ write-for-statement-separator ++ show-optional e ++ write-statement-closing-parenthesis ++ show-statement s
+        flush-line ∷ a-word Word.for ++ write-statement-opening-parenthesis ++ show-for-init-statement i ++ (flush-space ∷ show-optional-condition c) ++ write-for-statement-separator ++ show-optional-expr e ++ write-statement-closing-parenthesis ++ show-statement s
     show-statement (Statement.OfJump j) = flush-line ∷ show-jump-statement j
 
     pub show-statements : Statements → List Command
@@ -459,7 +474,7 @@ module _ (collapse : Bool) where
 
   -- the unit
 
-  -- its body is never collapsed
+  -- a function's body is never collapsed
   unfoldable pub show-function-definition : FunctionPrototype → Statements → List Command
   show-function-definition p ss =
       show-function-prototype p ++ (enter-function-definition-statement ∷ compound false (show-statements ss)) ++ (flush-line ∷ write-function-definition-terminator)

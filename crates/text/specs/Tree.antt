@@ -1,4 +1,5 @@
--- The trees, with the names of 001 (ast.rs). Each sort has a value `no-..` for records that are not what is expected there. Assumes nothing.
+-- The trees, with the names of 001 (ast.rs). `Of..` stands where 001's own word is taken; what the record itself holds comes before its children. Each sort
+-- has a value `no-..` for records that are not what is expected there. Assumes nothing.
 use mathlib.Core.Bool.{Bool}
 use mathlib.Core.List.{List}
 use mathlib.Core.Option.{Option}
@@ -66,7 +67,7 @@ mutual
     TypeName : Identifier → TypeSpecifierNonArray
     Struct : Option Identifier → StructFieldSpecifiers → TypeSpecifierNonArray
 
-  -- the dimensions of an array
+  -- the dimensions of an array; none is also 001's absent ArraySpecifier (an array of none is refused, 01, refusal 8)
   pub data ArraySpecifier : Type 0 where
     no-dimensions : ArraySpecifier
     dimensions : ArraySpecifierDimension → ArraySpecifier → ArraySpecifier

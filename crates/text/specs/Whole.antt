@@ -7,10 +7,11 @@ use Rattle.text.specs.Pen.{text}
 use Rattle.text.specs.Text.{show-expr, show-translation-unit}
 use Rattle.text.specs.Reading.{itemAt}
 
-unfoldable pub unitText : List ℕ → List ℕ → List ℕ → List ℕ
+-- settings out of range are refused before they are asked (01, refusal 1)
+unfoldable pub unitText : (settings records names : List ℕ) → List ℕ
 unitText settings records names =
     let s = settingsOf settings
     in text s (show-translation-unit (s .«collapse_single_item_compound_statements») (itemAt records names 0 .unit .tree)) fresh
 
-unfoldable pub exprText : List ℕ → List ℕ → List ℕ → List ℕ
+unfoldable pub exprText : (settings records names : List ℕ) → List ℕ
 exprText settings records names = text (settingsOf settings) (show-expr (itemAt records names 0 .expr .tree)) fresh

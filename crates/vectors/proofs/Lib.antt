@@ -10,3 +10,5 @@ pub mod V08
 pub mod V09
 pub mod V10
 pub mod V11
+pub mod V12
+pub mod V13
