@@ -6,7 +6,7 @@ use Prim.Native.Char.{code}
 use lib.IntN.{pos, negsuc}
 use lib.ListN.{length}
 use Rattle.decimal.specs.Decimal.{digits, decimal, magnitude, signed}
-use Rattle.decimal.specs.Room.{laid}
+use Rattle.room.specs.Room.{laid}
 
 -- the least i32, -2147483648: its magnitude fits no i32, and its text with the sign has eleven characters
 least-magnitude : magnitude (2 ^ 31) ≡ 2147483648

@@ -1,5 +1,4 @@
 pub mod Examples
 pub mod Laws
 pub mod Places
-pub mod Room
 pub mod Sign

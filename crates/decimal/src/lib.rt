@@ -5,7 +5,7 @@ ghost use lib.IntN.{natAbs};
 ghost use lib.ListN.{length};
 ghost use lib.Seq.{sets};
 ghost use Rattle.decimal.specs.Decimal.{decimal, negative, magnitude, signed};
-ghost use Rattle.decimal.specs.Room.{laid};
+ghost use Rattle.room.specs.Room.{laid};
 
 // How many digits n has.
 pub fn width(n: u64) -> usize

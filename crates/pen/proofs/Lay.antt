@@ -1,48 +1,21 @@
--- Laws of laying bytes: for the loops that copy, and for the leaf writers above them. Assumes nothing.
+-- Laws of the pen over a room: where it moves to, its level, and what makes a leaf writer's promise. Assumes nothing.
 use mathlib.Core.Path.{_≡_, refl, sym, ap, _∙_}
 use mathlib.Core.Bool.{Bool, true, false, cond}
-use mathlib.Core.List.{List, [], _∷_, _++_}
-use Prim.Native.Nat.{ℕ, zero, suc, _+_, _-_, _≤_, _<_}
+use mathlib.Core.List.{List, [], _∷_}
+use Prim.Native.Nat.{ℕ, _+_, _-_, _≤_, _<_}
 use native.Mathlib.Omega.{arith}
-use native.Mathlib.Numerals.{add-one}
-use lib.ListN.{length, getD, drop, set, replicate, drop-of-length-le, length-append}
-use lib.Seq.{sets, drop-cons}
+use lib.ListN.{length, getD, drop, drop-of-length-le}
 use lib.Dec.{leb}
 use borrow.Author.Tests.{le-leb, lt-leb, leb-true, leb-false, eq-eqb, ne-eqb}
-use Rattle.decimal.specs.Room.{laid}
-use Rattle.decimal.proofs.Room.{laid-fits, laid-out, laid-nothing}
-use Rattle.pen.specs.declared.Pen.{Pen}
+use Rattle.room.specs.Room.{laid}
+use Rattle.room.proofs.Laid.{laid-nothing}
+use Rattle.room.proofs.Loops.{next-of}
 use Rattle.text.specs.Token.{has}
 use Rattle.text.specs.Pen.{atLevel}
+use Rattle.pen.specs.declared.Pen.{Pen}
 use Rattle.pen.specs.Sheet.{last-place, last-level, upTo, forward, leave, lay}
 use Rattle.pen.specs.Run.{deeper, shallower}
 use Rattle.pen.specs.Promise.{sheet, Wrote}
-
--- a turn of a loop that stores one byte after the other: what is left from here on is all of it from the start
-module _ (room : List ℕ) {goal : List ℕ} (at j : ℕ) where
-  pub stored : (x : ℕ) (rest all : List ℕ) → all ≡ x ∷ rest → sets room (at + j) all ≡ goal → sets (set room (at + j) x) (at + (j + 1)) rest ≡ goal
-  stored x rest all e g =
-      let k : at + (j + 1) ≡ suc (at + j) = omega arith in
-      ap (λ (n : ℕ). sets (set room (at + j) x) n rest) k ∙ ap (λ (l : List ℕ). sets room (at + j) l) (sym e) ∙ g
-
-  pub stored-all : (all : List ℕ) → all ≡ [] → sets room (at + j) all ≡ goal → room ≡ goal
-  stored-all all e g = ap (λ (l : List ℕ). sets room (at + j) l) (sym e) ∙ g
-
-pub next-of : (src : List ℕ) (j : ℕ) → j < length src → drop j src ≡ getD src j 0 ∷ drop (j + 1) src
-next-of src j h = drop-cons src j 0 h ∙ ap (λ (n : ℕ). getD src j 0 ∷ drop n src) (sym (add-one j))
-
-pub next-same : (b n j : ℕ) → j < n → replicate (n - j) b ≡ b ∷ replicate (n - (j + 1)) b
-next-same b n j h = let e : n - j ≡ suc (n - (j + 1)) = omega arith in ap (λ (k : ℕ). replicate k b) e
-
-pub none-same : (b n j : ℕ) → n ≤ j → replicate (n - j) b ≡ []
-none-same b n j h = let e : n - j ≡ 0 = omega arith in ap (λ (k : ℕ). replicate k b) e
-
--- one byte that fits, and one that does not
-pub laid-one : (room : List ℕ) (at b : ℕ) → at < length room → set room at b ≡ laid room at (b ∷ [])
-laid-one room at b h = sym (laid-fits room at (b ∷ []) (omega arith))
-
-pub laid-none : (room : List ℕ) (at b : ℕ) → length room ≤ at → room ≡ laid room at (b ∷ [])
-laid-none room at b h = sym (laid-out room at (b ∷ []) (omega arith))
 
 -- the place behind n bytes
 pub place-behind : (at n : ℕ) → at ≤ last-place → n ≤ last-place - at → at + n ≡ upTo last-place (at + n)
@@ -50,53 +23,6 @@ place-behind at n h k = rw (le-leb (at + n) last-place (omega arith))
 
 pub place-stops : (at n : ℕ) → last-place - at < n → last-place ≡ upTo last-place (at + n)
 place-stops at n h = rw (lt-leb (at + n) last-place (omega arith))
-
--- a length, and what is left of it behind a place
-pub fits-behind : (size at n : ℕ) → at ≤ size → leb n (size - at) ≡ leb (at + n) size
-fits-behind size at n h = go (leb n (size - at)) refl
-  where
-    go : (b : Bool) → leb n (size - at) ≡ b → b ≡ leb (at + n) size
-    go true e = let k = leb-true n (size - at) e in sym (le-leb (at + n) size (omega arith))
-    go false e = let k = leb-false n (size - at) e in sym (lt-leb (at + n) size (omega arith))
-
-pub fits-not : (size at n : ℕ) → size < at → false ≡ leb (at + n) size
-fits-not size at n h = sym (lt-leb (at + n) size (omega arith))
-
--- n and then m bytes: what is left of the size behind n, for m
-pub both-behind : (size at n m : ℕ) → n ≤ size → leb (at + m) (size - n) ≡ leb (at + (n + m)) size
-both-behind size at n m h = go (leb (at + m) (size - n)) refl
-  where
-    go : (b : Bool) → leb (at + m) (size - n) ≡ b → b ≡ leb (at + (n + m)) size
-    go true e = let k = leb-true (at + m) (size - n) e in sym (le-leb (at + (n + m)) size (omega arith))
-    go false e = let k = leb-false (at + m) (size - n) e in sym (lt-leb (at + (n + m)) size (omega arith))
-
-pub both-not : (size at n m : ℕ) → size < n → false ≡ leb (at + (n + m)) size
-both-not size at n m h = sym (lt-leb (at + (n + m)) size (omega arith))
-
-pub front-fits : (size at n m : ℕ) → leb (at + (n + m)) size ≡ true → at + n ≤ size
-front-fits size at n m e = let h = leb-true (at + (n + m)) size e in omega arith
-
-pub back-fits : (size at n m size′ : ℕ) → leb (at + (n + m)) size ≡ true → size′ ≡ size → at + n + m ≤ size′
-back-fits size at n m size′ e f = let h = leb-true (at + (n + m)) size e in omega arith
-
--- two parts one behind the other are one
-sets-append : (room : List ℕ) (at : ℕ) (front back : List ℕ) → sets room at (front ++ back) ≡ sets (sets room at front) (at + length front) back
-sets-append room at [] back = ap (λ (n : ℕ). sets room n back) (omega arith)
-sets-append room at (x ∷ front) back =
-    sets-append (set room at x) (suc at) front back ∙ ap (λ (n : ℕ). sets (sets (set room at x) (suc at) front) n back) (omega arith)
-
-module _ (room : List ℕ) (at : ℕ) (front back : List ℕ) where
-  pub laid-two : {room₁ room₂ : List ℕ} → leb (at + (length front + length back)) (length room) ≡ true → room₁ ≡ laid room at front
-      → room₂ ≡ sets room₁ (at + length front) back → room₂ ≡ laid room at (front ++ back)
-  laid-two h e f =
-      let k = leb-true (at + (length front + length back)) (length room) h in
-      f ∙ ap (λ (r : List ℕ). sets r (at + length front) back) (e ∙ laid-fits room at front (omega arith)) ∙ sym (sets-append room at front back)
-      ∙ sym (laid-fits room at (front ++ back) (simp length-append (omega arith)))
-
-  pub laid-neither : leb (at + (length front + length back)) (length room) ≡ false → room ≡ laid room at (front ++ back)
-  laid-neither h =
-      let k = leb-false (at + (length front + length back)) (length room) h in
-      sym (laid-out room at (front ++ back) (simp length-append (omega arith)))
 
 -- on by one part and then by another
 pub forward-two : (n m : ℕ) (p : Pen) → forward m (forward n p) ≡ forward (n + m) p

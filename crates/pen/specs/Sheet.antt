@@ -4,7 +4,7 @@ use mathlib.Core.List.{List, [], _∷_}
 use Prim.Native.Nat.{ℕ, _+_, _-_, _^_}
 use lib.ListN.{length}
 use lib.Dec.{leb}
-use Rattle.decimal.specs.Room.{laid}
+use Rattle.room.specs.Room.{laid}
 use Rattle.settings.specs.declared.FormattingState.{FormattingState}
 use Rattle.pen.specs.declared.Pen.{Pen}
 

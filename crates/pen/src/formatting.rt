@@ -13,7 +13,7 @@ ghost use Rattle.pen.specs.Sheet.{leave};
 ghost use Rattle.pen.specs.Run.{deeper, shallower, asked};
 ghost use Rattle.pen.specs.Promise.{Ran, Turned};
 use crate::Pen;
-use crate::room;
+use crate::tokens;
 use settings::IndentStyle;
 use settings::Settings;
 
@@ -25,7 +25,7 @@ impl Pen {
         ensures { λ r. ⌜ Ran s (write-indent ∷ []) (now (room .entry)) self (now (room .exit)) r ⌝ }
     {
         let style = s.indent_style;
-        let n = room::times(s.count, self.state.indentation_level);
+        let n = tokens::times(s.count, self.state.indentation_level);
         match style {
             IndentStyle::None => self,
             IndentStyle::Tabs => self.write_run(room, b'\t', n),

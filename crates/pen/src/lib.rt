@@ -1,6 +1,6 @@
 // The pen: 000's FormattingState by value, its methods in 000's order under 000's names, and the leaf writers that stand for `F: Write`.
 mod formatting;
-mod room;
+mod tokens;
 
 ghost use mathlib.Core.Path.{_≡_};
 ghost use mathlib.Core.Bool.{true, false, cond};
@@ -33,7 +33,7 @@ impl Pen {
         ensures { λ r. ⌜ r ≡ forward n self ⌝ }
     {
         let mut moved = self;
-        moved.at = room::advanced(self.at, n);
+        moved.at = tokens::advanced(self.at, n);
         moved
     }
 
@@ -69,7 +69,7 @@ impl Pen {
     fn write_digits(self, room: &mut [u8], n: u64, suffix: &[u8]) -> Pen
         ensures { λ r. ⌜ Wrote (decimal n ++ now (suffix .entry)) (now (room .entry)) self (now (room .exit)) r ⌝ }
     {
-        room::lay_number(room, self.at, n, suffix);
+        tokens::lay_number(room, self.at, n, suffix);
         self.forward(decimal::width(n)).forward(suffix.len())
     }
 
@@ -89,7 +89,7 @@ impl Pen {
     pub fn write_float(self, room: &mut [u8], text: &[u8]) -> Pen
         ensures { λ r. ⌜ Wrote (spell (Token.float (now (text .entry)))) (now (room .entry)) self (now (room .exit)) r ⌝ }
     {
-        if room::has_point(text) {
+        if tokens::has_point(text) {
             return self.write_str(room, text);
         }
         self.write_two(room, text, b".")
@@ -98,7 +98,7 @@ impl Pen {
     pub fn write_double(self, room: &mut [u8], text: &[u8]) -> Pen
         ensures { λ r. ⌜ Wrote (spell (Token.double (now (text .entry)))) (now (room .entry)) self (now (room .exit)) r ⌝ }
     {
-        if room::has_point(text) {
+        if tokens::has_point(text) {
             return self.write_two(room, text, b"lf");
         }
         self.write_two(room, text, b".lf")

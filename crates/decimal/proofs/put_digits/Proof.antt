@@ -5,7 +5,7 @@ use native.Mathlib.Omega.{arith}
 use borrow.Author.Needs.{needs}
 use lib.Seq.{sets}
 use Rattle.decimal.specs.Decimal.{decimal}
-use Rattle.decimal.proofs.Room.{laid-fits, laid-out}
+use Rattle.room.proofs.Laid.{laid-fits, laid-out}
 use Rattle.decimal.proofs.put_digits.Statement.{statement}
 use Rattle.decimal.proofs.put_digits.Tie as tie
 

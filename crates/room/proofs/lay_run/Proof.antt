@@ -1,11 +1,11 @@
 -- `lay_run` meets its contract. Assumes nothing.
 use lib.ListN.{length-replicate}
-use Rattle.decimal.proofs.Room.{laid-fits, laid-out}
+use Rattle.room.proofs.Laid.{laid-fits, laid-out}
 use borrow.Author.Tests.{leb-true, leb-false}
 use mathlib.Core.Path.{sym, _∙_}
 use borrow.Author.Needs.{needs}
-use Rattle.pen.proofs.room.lay_run.Statement.{statement}
-use Rattle.pen.proofs.room.lay_run.Tie as tie
+use Rattle.room.proofs.lay_run.Statement.{statement}
+use Rattle.room.proofs.lay_run.Tie as tie
 
 fits-requires : tie.Need-fits-requires
 fits-requires c κs = search needs

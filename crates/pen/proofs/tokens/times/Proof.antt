@@ -4,8 +4,8 @@ use Prim.Native.Nat.{_≤_}
 use lib.Dec.{lit<}
 use native.Mathlib.Nat.{lt-of-le-of-lt, mul-le-mul}
 use borrow.Author.Needs.{needs}
-use Rattle.pen.proofs.room.times.Statement.{statement}
-use Rattle.pen.proofs.room.times.Tie as tie
+use Rattle.pen.proofs.tokens.times.Statement.{statement}
+use Rattle.pen.proofs.tokens.times.Tie as tie
 
 mul-result : tie.Need-mul-result
 mul-result c =

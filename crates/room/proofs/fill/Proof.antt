@@ -1,4 +1,4 @@
-use Rattle.pen.proofs.Lay.{stored, stored-all, next-same, none-same}
+use Rattle.room.proofs.Loops.{stored, stored-all, next-same, none-same}
 use lib.ListN.{length, replicate, length-set}
 use native.Mathlib.Nat.{add-zero, sub-zero}
 -- `fill` meets its contract: what is left to store from here on is all of it from the start. Assumes nothing.
@@ -6,8 +6,8 @@ use lib.Seq.{sets}
 use mathlib.Core.Path.{_≡_, refl, sym, _∙_}
 use Prim.Native.Nat.{_+_, _-_, _≤_}
 use native.Mathlib.Omega.{arith}
-use Rattle.pen.proofs.room.fill.Statement.{statement}
-use Rattle.pen.proofs.room.fill.Tie as tie
+use Rattle.room.proofs.fill.Statement.{statement}
+use Rattle.room.proofs.fill.Tie as tie
 
 abbrev Inv-loop : tie.InvT-loop
 Inv-loop room₀ at byte n j₀ room j = (sets room (at + j) (replicate (n - j) byte) ≡ sets room₀ at (replicate n byte)) × (length room ≡ length room₀) × (j ≤ n)

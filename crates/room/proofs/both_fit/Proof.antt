@@ -1,9 +1,9 @@
 -- `both_fit` meets its contract. Assumes nothing.
-use Rattle.pen.proofs.Lay.{both-behind, both-not}
+use Rattle.room.proofs.Fit.{both-behind, both-not}
 use mathlib.Core.Path.{_∙_}
 use borrow.Author.Needs.{needs}
-use Rattle.pen.proofs.room.both_fit.Statement.{statement}
-use Rattle.pen.proofs.room.both_fit.Tie as tie
+use Rattle.room.proofs.both_fit.Statement.{statement}
+use Rattle.room.proofs.both_fit.Tie as tie
 
 returns : tie.Need-returns
 returns c = both-not _ _ _ _ (c .if1 .taken)

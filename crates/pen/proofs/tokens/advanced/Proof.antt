@@ -2,8 +2,8 @@ use Rattle.pen.proofs.Lay.{place-behind, place-stops}
 -- `advanced` meets its contract: the sum fits or the place stops. Assumes nothing.
 use native.Mathlib.Omega.{arith}
 use borrow.Author.Needs.{needs}
-use Rattle.pen.proofs.room.advanced.Statement.{statement}
-use Rattle.pen.proofs.room.advanced.Tie as tie
+use Rattle.pen.proofs.tokens.advanced.Statement.{statement}
+use Rattle.pen.proofs.tokens.advanced.Tie as tie
 
 sub-left : tie.Need-sub-left
 sub-left c = search needs

@@ -1,8 +1,8 @@
-use Rattle.pen.proofs.Lay.{fits-behind, fits-not}
+use Rattle.room.proofs.Fit.{fits-behind, fits-not}
 -- `fits` meets its contract. Assumes nothing.
 use native.Mathlib.Omega.{arith}
-use Rattle.pen.proofs.room.fits.Statement.{statement}
-use Rattle.pen.proofs.room.fits.Tie as tie
+use Rattle.room.proofs.fits.Statement.{statement}
+use Rattle.room.proofs.fits.Tie as tie
 
 returns : tie.Need-returns
 returns c = fits-not _ _ _ (c .if1 .taken)

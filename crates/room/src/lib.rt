@@ -1,27 +1,11 @@
-// Bytes in a room, without a pen: laid all or not at all.
+// Bytes in a lent room: laid all or not at all.
 ghost use mathlib.Core.Path.{_≡_};
 ghost use mathlib.Core.List.{[], _∷_, _++_};
-ghost use Prim.Native.Nat.{_+_, _*_, _≤_};
-ghost use lib.ListN.{length, set, replicate};
+ghost use Prim.Native.Nat.{_+_, _≤_};
+ghost use lib.ListN.{length, replicate};
 ghost use lib.Seq.{sets};
 ghost use lib.Dec.{leb};
-ghost use Rattle.decimal.specs.Decimal.{decimal};
-ghost use Rattle.decimal.specs.Room.{laid};
-ghost use Rattle.text.specs.Token.{has, point};
-ghost use Rattle.pen.specs.Sheet.{upTo, last-place};
-
-const LAST_PLACE: u32 = 4294967295;
-
-// n bytes on. The place stops at the last of 32 bits, which no text of ours reaches.
-pub fn advanced(at: u32, n: usize) -> u32
-    ensures { λ r. ⌜ r ≡ upTo last-place (at + n) ⌝ }
-{
-    let left = LAST_PLACE - at;
-    if n <= left as usize {
-        return at + (n as u32);
-    }
-    LAST_PLACE
-}
+ghost use Rattle.room.specs.Room.{laid};
 
 // One byte, if it fits.
 pub fn store(room: &mut [u8], at: u32, byte: u8)
@@ -86,7 +70,7 @@ pub fn lay_run(room: &mut [u8], at: u32, byte: u8, n: usize)
 }
 
 // Whether n and then m bytes from `at` on fit into a room of `size`: n + m need not fit a number.
-fn both_fit(size: usize, at: u32, n: usize, m: usize) -> bool
+pub fn both_fit(size: usize, at: u32, n: usize, m: usize) -> bool
     ensures { λ r. ⌜ r ≡ leb (at + (n + m)) size ⌝ }
 {
     if size < n {
@@ -104,37 +88,4 @@ pub fn lay_two(room: &mut [u8], at: u32, front: &[u8], back: &[u8])
         copy(room, place, front);
         copy(room, place + front.len(), back);
     }
-}
-
-// The digits of n and what stands behind them, if both fit.
-pub fn lay_number(room: &mut [u8], at: u32, n: u64, back: &[u8])
-    ensures { λ r. ⌜ now (room .exit) ≡ laid (now (room .entry)) at (decimal n ++ now (back .entry)) ⌝ }
-{
-    let digits = decimal::width(n);
-    if both_fit(room.len(), at, digits, back.len()) {
-        let place = at as usize;
-        decimal::put_digits(room, place, n);
-        copy(room, place + digits, back);
-    }
-}
-
-// Whether a point stands in it.
-pub fn has_point(text: &[u8]) -> bool
-    ensures { λ r. ⌜ r ≡ has point (now (text .entry)) ⌝ }
-{
-    let mut i = 0;
-    while i < text.len() {
-        if text[i] == b'.' {
-            return true;
-        }
-        i += 1;
-    }
-    false
-}
-
-// The characters of an indent.
-pub fn times(count: u8, levels: u16) -> usize
-    ensures { λ r. ⌜ r ≡ count * levels ⌝ }
-{
-    (count as usize) * (levels as usize)
 }

@@ -1,10 +1,10 @@
 -- `lay` meets its contract. Assumes nothing.
-use Rattle.decimal.proofs.Room.{laid-fits, laid-out}
+use Rattle.room.proofs.Laid.{laid-fits, laid-out}
 use mathlib.Core.Path.{sym, _∙_}
 use borrow.Author.Tests.{leb-true, leb-false}
 use borrow.Author.Needs.{needs}
-use Rattle.pen.proofs.room.lay.Statement.{statement}
-use Rattle.pen.proofs.room.lay.Tie as tie
+use Rattle.room.proofs.lay.Statement.{statement}
+use Rattle.room.proofs.lay.Tie as tie
 
 fits-requires : tie.Need-fits-requires
 fits-requires c κs = search needs

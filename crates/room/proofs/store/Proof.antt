@@ -1,9 +1,9 @@
-use Rattle.pen.proofs.Lay.{laid-one, laid-none}
+use Rattle.room.proofs.Loops.{laid-one, laid-none}
 -- `store` meets its contract: in the room the byte is laid, behind it nothing is. Assumes nothing.
 use native.Mathlib.Omega.{arith}
 use borrow.Author.Needs.{needs}
-use Rattle.pen.proofs.room.store.Statement.{statement}
-use Rattle.pen.proofs.room.store.Tie as tie
+use Rattle.room.proofs.store.Statement.{statement}
+use Rattle.room.proofs.store.Tie as tie
 
 slice-write-room : tie.Need-slice-write-room
 slice-write-room c = search needs

@@ -1,4 +1,4 @@
-use Rattle.pen.proofs.Lay.{stored, stored-all, next-of}
+use Rattle.room.proofs.Loops.{stored, stored-all, next-of}
 use lib.ListN.{length, drop, length-set, drop-of-length-le}
 use native.Mathlib.Nat.{add-zero}
 -- `copy` meets its contract: what is left to store from here on is all of it from the start. Assumes nothing.
@@ -6,8 +6,8 @@ use lib.Seq.{sets}
 use mathlib.Core.Path.{_≡_, refl, sym, _∙_}
 use Prim.Native.Nat.{_+_, _-_, _≤_}
 use native.Mathlib.Omega.{arith}
-use Rattle.pen.proofs.room.copy.Statement.{statement}
-use Rattle.pen.proofs.room.copy.Tie as tie
+use Rattle.room.proofs.copy.Statement.{statement}
+use Rattle.room.proofs.copy.Tie as tie
 
 abbrev Inv-loop : tie.InvT-loop
 Inv-loop room₀ at src j₀ room j = (sets room (at + j) (drop j src) ≡ sets room₀ at src) × (length room ≡ length room₀) × (j ≤ length src)

@@ -7,7 +7,7 @@ use lib.ListN.{length, take, drop}
 use lib.Seq.{sets, length-sets, sets-eq}
 use lib.Dec.{leb}
 use borrow.Author.Tests.{le-leb, lt-leb}
-use Rattle.decimal.specs.Room.{laid}
+use Rattle.room.specs.Room.{laid}
 
 module _ (room : List ℕ) (at : ℕ) (bs : List ℕ) where
   -- they fit, and stand there

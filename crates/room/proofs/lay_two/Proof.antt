@@ -1,10 +1,10 @@
-use Rattle.decimal.proofs.Room.{laid-fits}
-use Rattle.pen.proofs.Lay.{front-fits, back-fits, laid-two, laid-neither}
+use Rattle.room.proofs.Laid.{laid-fits}
+use Rattle.room.proofs.Fit.{front-fits, back-fits, laid-two, laid-neither}
 -- `lay_two` meets its contract. Assumes nothing.
 use mathlib.Core.Path.{sym, _∙_}
 use borrow.Author.Needs.{needs}
-use Rattle.pen.proofs.room.lay_two.Statement.{statement}
-use Rattle.pen.proofs.room.lay_two.Tie as tie
+use Rattle.room.proofs.lay_two.Statement.{statement}
+use Rattle.room.proofs.lay_two.Tie as tie
 
 both-fit-requires : tie.Need-both-fit-requires
 both-fit-requires c κs = search needs

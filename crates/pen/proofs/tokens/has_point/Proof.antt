@@ -5,8 +5,8 @@ use lib.ListN.{length, drop}
 use Prim.Native.Nat.{_-_, _≤_}
 use mathlib.Core.Path.{_≡_, refl, sym}
 use native.Mathlib.Omega.{arith}
-use Rattle.pen.proofs.room.has_point.Statement.{statement}
-use Rattle.pen.proofs.room.has_point.Tie as tie
+use Rattle.pen.proofs.tokens.has_point.Statement.{statement}
+use Rattle.pen.proofs.tokens.has_point.Tie as tie
 
 abbrev Inv-loop : tie.InvT-loop
 Inv-loop text i₀ i = (has point text ≡ has point (drop i text)) × (i ≤ length text)

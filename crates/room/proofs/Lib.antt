@@ -1,0 +1,3 @@
+pub mod Laid
+pub mod Loops
+pub mod Fit
