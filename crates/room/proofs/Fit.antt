@@ -40,7 +40,7 @@ pub back-fits : (size at n m size′ : ℕ) → leb (at + (n + m)) size ≡ true
 back-fits size at n m size′ e f = let h = leb-true (at + (n + m)) size e in omega arith
 
 -- two parts one behind the other are one
-sets-append : (room : List ℕ) (at : ℕ) (front back : List ℕ) → sets room at (front ++ back) ≡ sets (sets room at front) (at + length front) back
+pub sets-append : (room : List ℕ) (at : ℕ) (front back : List ℕ) → sets room at (front ++ back) ≡ sets (sets room at front) (at + length front) back
 sets-append room at [] back = ap (λ (n : ℕ). sets room n back) (omega arith)
 sets-append room at (x ∷ front) back =
     sets-append (set room at x) (suc at) front back ∙ ap (λ (n : ℕ). sets (sets (set room at x) (suc at) front) n back) (omega arith)
