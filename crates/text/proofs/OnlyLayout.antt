@@ -47,7 +47,7 @@ indentation-blank Indent.Spaces n l = run-blank (code " ") (n * l) refl
 
 indent-blank : (s : Settings) (x : FormattingState) → visible (indentOf s x) ≡ []
 unfolding indentOf
-indent-blank s x = indentation-blank (s .«indent_style») (s .count) (x .«indentation_level»)
+indent-blank s x = indentation-blank (s .«indent_style») (s .count) _
 
 line-blank : (s : Settings) (x : FormattingState) → visible (lineOf s x) ≡ []
 unfolding lineOf visible
