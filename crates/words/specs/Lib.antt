@@ -3,3 +3,4 @@ pub mod Word
 pub mod Symbol
 pub mod Table
 pub mod Form
+pub mod Bucket
