@@ -144,3 +144,46 @@ write('proofs/Listed.antt', '-- The numbers behind `first_in` and `next_in`. Wri
       + numbers('nextKeys', 'the same of `next_in`', [k for k, _ in reversed(follows)]))
 write('proofs/rows/first_in/Proof.antt', proof('first_in', len(first), 'first', 'firstOf'))
 write('proofs/rows/next_in/Proof.antt', proof('next_in', len(follows), 'next', 'nextOf'))
+
+LISTS = 'texts fixedWords typeKeywords otherWords qualifierWords jumpWords boolWords loneWords wordText operators symbolText unaryOperators binaryOperators assignmentOperators'
+
+
+def law(name, start, text, entries, kind, to_text):
+    """The rows of a section, by variant."""
+    count = len(listed(text, entries))
+    return '''pub %s-row : (v : ℕ) → v < %d → (d : %s) → textAt (%d + v) ≡ bytes (%s (getD %s v d))
+unfolding %s
+%s-row v h d = section %s %d %s refl v h d
+''' % (name, count, kind, start, to_text, entries, LISTS, name, to_text, start, entries)
+
+
+def laws():
+    at = dict(sections())
+    out = [law('qualifier', at['QUALIFIERS'], spec('Word'), 'qualifierWords', 'Word', 'wordText'),
+           law('jump', at['JUMPS'], spec('Word'), 'jumpWords', 'Word', 'wordText'),
+           law('bool', at['BOOLS'], spec('Word'), 'boolWords', 'Word', 'wordText'),
+           law('unary', at['UNARY'], spec('Symbol'), 'unaryOperators', 'Symbol', 'symbolText'),
+           law('binary', at['BINARY'], spec('Symbol'), 'binaryOperators', 'Symbol', 'symbolText'),
+           law('assignment', at['ASSIGNMENT'], spec('Symbol'), 'assignmentOperators', 'Symbol', 'symbolText')]
+    for word, name in zip(listed(spec('Word'), 'loneWords'), LONE):
+        out.append('pub %s-row : textAt %d ≡ bytes (wordText Word.%s)\nunfolding textAt %s\n%s-row = refl\n' % (name.lower(), at[name], word, LISTS, name.lower()))
+    return '\n'.join(out)
+
+
+write('proofs/Sections.antt', '''-- The rows by what they hold: one law a section, over the variant, and one for each lone word. Written by tools/words.py. Assumes nothing.
+use mathlib.Core.Path.{_≡_, refl, sym, _∙_, ap}
+use Prim.Native.Nat.{ℕ, _+_, _<_}
+use Prim.Native.String.{String}
+use native.Mathlib.Nat.{zero-add}
+use lib.ListN.{getD}
+use Rattle.words.specs.Bytes.{bytes}
+use Rattle.words.specs.Word.{Word, wordText, qualifierWords, jumpWords, boolWords, loneWords, otherWords}
+use Rattle.words.specs.Symbol.{Symbol, symbolText, unaryOperators, binaryOperators, assignmentOperators}
+use Rattle.words.specs.Table.{typeKeywords, fixedWords, operators, texts, textAt}
+use Rattle.words.proofs.Places.{section}
+
+pub type-row : (v : ℕ) → v < %d → textAt v ≡ bytes (getD typeKeywords v "")
+unfolding %s
+type-row v h = ap textAt (sym (zero-add v)) ∙ section (λ (t : String). t) 0 typeKeywords refl v h ""
+
+%s''' % (len(listed(spec('Table'), 'typeKeywords')), LISTS, laws()))

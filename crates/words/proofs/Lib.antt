@@ -7,3 +7,4 @@ pub mod Places
 pub mod Search
 pub mod Rule
 pub mod Names
+pub mod Sections

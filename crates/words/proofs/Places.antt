@@ -1,14 +1,14 @@
 -- Where a row's text stands in the table. One test over all texts, that none is longer than the widest, gives it at each row. Assumes nothing.
 use mathlib.Core.Path.{_≡_, refl, sym, _∙_, ap}
 use mathlib.Core.Bool.{Bool, true, _&&_}
-use mathlib.Core.List.{List, [], _∷_, _++_, append-assoc}
+use mathlib.Core.List.{List, [], _∷_, _++_, map, append-assoc}
 use Prim.Native.Nat.{ℕ, zero, suc, _+_, _*_, _-_, _≤_, _<_}
 use Prim.Native.String.{String}
 use Prim.Native.Char.{code}
 use native.Mathlib.Nat.{le-of-suc-le-suc, not-suc-le-zero}
 use native.Mathlib.Omega.{arith}
 use lib.ListN.{length, getD, take, drop, replicate, length-append, length-replicate, List·getD-eq-default}
-use lib.Seq.{drop-append-add, getD-drop, getD-at, take-at}
+use lib.Seq.{drop-append-add, getD-drop, getD-take, getD-at, take-at}
 use lib.Dec.{T, leb, leb→le}
 use Rattle.words.specs.Bytes.{bytes}
 use Rattle.words.specs.Word.{wordText, qualifierWords, jumpWords, boolWords, loneWords, otherWords}
@@ -80,3 +80,20 @@ module _ (t : List ℕ) (is : t ≡ table) (k : ℕ) (h : k < rows-count) where
 
   pub text-here : (n : ℕ) → n ≡ length (textAt k) → take n (drop (width * k) t) ≡ textAt k
   text-here n e = ap (take n) from-here ∙ take-at (textAt k) _ n (sym e)
+
+-- the texts f x of a section that begins at row n, by variant (d is never looked at)
+map-at : {A : Type 0} (f : A → String) (xs : List A) (v : ℕ) (d : A) → v < length xs → getD (map f xs) v "" ≡ f (getD xs v d)
+map-at f [] v d h = absurd (not-suc-le-zero h)
+map-at f (x ∷ xs) zero d h = refl
+map-at f (x ∷ xs) (suc v) d h = map-at f xs v d (le-of-suc-le-suc h)
+
+pub section :
+    {A : Type 0} (f : A → String) (n : ℕ) (xs : List A) → take (length xs) (drop n texts) ≡ map f xs
+    → (v : ℕ) → v < length xs → (d : A) → textAt (n + v) ≡ bytes (f (getD xs v d))
+unfolding textAt
+section f n xs e v h d =
+    ap bytes
+    (sym (getD-drop n texts v "")
+    ∙ sym (getD-take (length xs) (drop n texts) v "" h)
+    ∙ ap (λ (l : List String). getD l v "") e
+    ∙ map-at f xs v d h)
