@@ -8,3 +8,4 @@ pub mod Search
 pub mod Rule
 pub mod Names
 pub mod Sections
+pub mod Examples
