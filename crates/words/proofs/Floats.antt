@@ -124,20 +124,21 @@ module _ (s : List ℕ) where
     float-bad-whole e = float-parts ∙ rw e
 
     -- with n digits at the front
-    module _ (n : ℕ) (count : n ≡ length (digits s)) (whole : wholePart (digits s) ≡ true) where
-      float-rest : floatForm s ≡ nothingOrFraction (drop n s)
-      float-rest = float-parts ∙ rw (whole, count)
+    pub float-rest : (n : ℕ) → n ≡ length (digits s) → wholePart (digits s) ≡ true → floatForm s ≡ nothingOrFraction (drop n s)
+    float-rest n count whole = float-parts ∙ rw (whole, count)
 
-      pub float-no-point : n ≡ length s → floatForm s ≡ true
-      unfolding nothingOrFraction
-      float-no-point e = let h : length s ≤ n = omega arith in float-rest ∙ rw (drop-of-length-le s h)
+-- what is behind the n digits
+module _ (s : List ℕ) (n : ℕ) where
+  pub rest-nothing : n ≡ length s → nothingOrFraction (drop n s) ≡ true
+  unfolding nothingOrFraction
+  rest-nothing e = let h : length s ≤ n = omega arith in rw (drop-of-length-le s h)
 
-      float-behind : n < length s → floatForm s ≡ eqb (getD s n 0) (code ".") && fraction (drop (n + 1) s)
-      unfolding nothingOrFraction
-      float-behind h = float-rest ∙ rw (add-one, drop-cons s n 0 h)
+  rest-some : n < length s → nothingOrFraction (drop n s) ≡ eqb (getD s n 0) (code ".") && fraction (drop (n + 1) s)
+  unfolding nothingOrFraction
+  rest-some h = rw (add-one, drop-cons s n 0 h)
 
-      pub float-bad-point : n < length s → (getD s n 0 ≡ code "." → ⊥) → floatForm s ≡ false
-      float-bad-point h f = float-behind h ∙ simp (ne-eqb _ _ f)
+  pub rest-no-point : n < length s → (getD s n 0 ≡ code "." → ⊥) → nothingOrFraction (drop n s) ≡ false
+  rest-no-point h f = rest-some h ∙ simp (ne-eqb _ _ f)
 
-      pub float-point : n < length s → getD s n 0 ≡ code "." → floatForm s ≡ fraction (drop (n + 1) s)
-      float-point h e = float-behind h ∙ simp (eq-eqb _ _ e)
+  pub rest-point : n < length s → getD s n 0 ≡ code "." → nothingOrFraction (drop n s) ≡ fraction (drop (n + 1) s)
+  rest-point h e = rest-some h ∙ simp (eq-eqb _ _ e)

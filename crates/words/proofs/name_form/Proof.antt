@@ -12,7 +12,7 @@ returns : tie.Need-returns
 returns c = sym (name-empty _ (c .if1 .taken))
 
 returns-2 : tie.Need-returns-2
-returns-2 c = sym (name-long _ (c .if2 .taken))
+returns-2 c = sym (name-long (c .before .before .before .args .s .now) (omega arith))
 
 shared-slice-read-is-digit : tie.Need-shared-slice-read-is-digit
 shared-slice-read-is-digit c = search needs
@@ -34,8 +34,12 @@ is-fixed-word-requires c κs = search needs
 
 returns-5 : tie.Need-returns-5
 returns-5 c = let h = c .before .before .before .before .before .before .before .if1 .left in
+    let l = c .before .before .before .before .before .before .if2 .left in
     ap not (c .is-fixed-word .ensures)
-    ∙ sym (name-left _ (omega arith) (c .before .before .before .before .before .before .if2 .left) (sym (c .before .before .before .before .is-digit .ensures) ∙ c .before .before .before .if3 .left) (sym (c .before .before .all-name-bytes .ensures) ∙ not-false _ (c .before .if4 .left)))
+    ∙ sym
+    (name-left (c .before .before .before .before .before .before .before .before .before .args .s .now) (omega arith) (omega arith)
+    (sym (c .before .before .before .before .is-digit .ensures) ∙ c .before .before .before .if3 .left)
+    (sym (c .before .before .all-name-bytes .ensures) ∙ not-false _ (c .before .if4 .left)))
 
 pub name-form-spec : {M : Type 1} → statement M
 name-form-spec =
