@@ -46,22 +46,27 @@ def arms(pairs, otherwise):
     return '\n'.join('        %d => %d,' % pair for pair in pairs) + '\n        _ => %d,' % otherwise
 
 
-def proof(function, count, law, of):
+def proof(function, count, uses, arm, unfolds, rest, rest_unfolds):
     """A proof whose needs are one `returns` for each arm, and one for all other numbers."""
     names = ['returns' if k == 1 else 'returns-%d' % k for k in range(1, count + 2)]
     path = 'Rattle.words.proofs.rows.' + function
-    out = ['-- `words::rows::%s` meets its contract: each arm by computation, all other numbers by one computed test. Written by tools/words.py. Assumes nothing.' % function,
-           'use mathlib.Core.Path.{refl}', 'use Rattle.words.specs.Bucket.{before}',
-           'use Rattle.words.proofs.Listed.{listed, %sKeys}' % law, 'use Rattle.words.proofs.Buckets.{%s, %s-arm, %s-rest}' % (of, law, law),
-           'use %s.Statement.{statement}' % path, 'use %s.Tie as tie' % path, '']
+    out = ['-- `words::rows::%s` meets its contract: each arm by computation, all other numbers by one law. Written by tools/words.py. Assumes nothing.' % function,
+           'use mathlib.Core.Path.{refl}', *uses, 'use %s.Statement.{statement}' % path, 'use %s.Tie as tie' % path, '']
     for k, name in enumerate(names, 1):
-        arm = k <= count
-        out += ['%s : tie.Need-%s' % (name, name), 'unfolding ' + (of + ' before listed' if arm else 'listed %sKeys' % law),
-                '%s c = %s' % (name, '%s-arm (c .match .keys%d) refl' % (law, k) if arm else '%s-rest _ (c .before .pre) (c .match .rest)' % law), '']
+        last = k > count
+        out += ['%s : tie.Need-%s' % (name, name), 'unfolding ' + (rest_unfolds if last else unfolds),
+                '%s c = %s' % (name, rest if last else '%s (c .match .keys%d) refl' % (arm, k)), '']
     spec_name = function.replace('_', '-') + '-spec'
     out += ['pub %s : {M : Type 1} → statement M' % spec_name, '%s =' % spec_name, '    tie.close', '    (tie.spec', *('    ' + n for n in names)]
     out[-1] += ')'
     return '\n'.join(out) + '\n'
+
+
+def chain_proof(function, count, law, of):
+    return proof(function, count,
+                 ['use Rattle.words.specs.Bucket.{before}', 'use Rattle.words.proofs.Listed.{listed, %sKeys}' % law,
+                  'use Rattle.words.proofs.Buckets.{%s, %s-arm, %s-rest}' % (of, law, law)],
+                 law + '-arm', of + ' before listed', '%s-rest _ (c .before .pre) (c .match .rest)' % law, 'listed %sKeys' % law)
 
 
 def write(name, text):
@@ -73,6 +78,7 @@ rows = words + operators()
 buckets = [bucket(w) for w in words]
 first = sorted({b: buckets.index(b) for b in buckets}.items())
 follows = [(k, buckets.index(b, k + 1)) for k, b in enumerate(buckets) if b in buckets[k + 1:]]
+masks = sorted({w[0]: (ord(w[0]), sum({1 << len(v) for v in words if v[0] == w[0]})) for w in words}.values())
 LONE = [l.upper().strip('«»') for l in listed(spec('Word'), 'loneWords')]
 
 
@@ -95,7 +101,7 @@ write('src/rows.rt', '''// The table's bytes, where its sections begin, and wher
 ghost use mathlib.Core.Path.{_≡_};
 ghost use Prim.Native.Nat.{_+_, _<_};
 ghost use lib.ListN.{getD, length};
-ghost use Rattle.words.specs.Bucket.{buckets, seek};
+ghost use Rattle.words.specs.Bucket.{lengthsOf, buckets, seek};
 
 pub type Words = [u8; %d];
 
@@ -105,7 +111,16 @@ pub type Words = [u8; %d];
 pub const TABLE: Words = *b"\\
 %s";
 
-// The first row with a word of the bucket b, or UNARY, behind the fixed words. (One number an arm, so that it compiles to a look into a constant.)
+// The lengths of the fixed words that begin with x, a bit for each. (One number an arm in these three, so that each compiles to a look into a constant.)
+pub fn lengths(x: u8) -> u32
+    ensures { λ r. ⌜ r ≡ lengthsOf x ⌝ }
+{
+    match x {
+%s
+    }
+}
+
+// The first row with a word of the bucket b, or UNARY, behind the fixed words.
 pub fn first_in(b: usize) -> usize
     requires { ⌜ b < %d ⌝ }
     ensures { λ r. ⌜ r ≡ seek 0 b ⌝ }
@@ -124,7 +139,7 @@ pub fn next_in(k: usize) -> usize
 %s
     }
 }
-''' % (len(rows) * (WIDEST + 1), ''.join('pub const %s: usize = %d;\n' % s for s in sections()), table(rows), BUCKETS, arms(first, len(words)),
+''' % (len(rows) * (WIDEST + 1), ''.join('pub const %s: usize = %d;\n' % s for s in sections()), table(rows), arms(masks, 0), BUCKETS, arms(first, len(words)),
        arms(follows, len(words))))
 
 
@@ -136,16 +151,26 @@ def numbers(name, says, ns):
     return '-- %s\nunfoldable pub %s : List ℕ\n%s = %s\n' % (says, name, name, ' ∷ '.join(map(str, ns + ['[]'])))
 
 
-write('proofs/Listed.antt', '-- The numbers behind `first_in` and `next_in`. Written by tools/words.py. Assumes nothing.\n'
+write('proofs/Listed.antt', '-- The numbers behind `lengths`, `first_in` and `next_in`. Written by tools/words.py. Assumes nothing.\n'
       'use mathlib.Core.List.{List, [], _∷_}\nuse Prim.Native.Nat.{ℕ}\n\n'
       + number('words-count', 'how many fixed words there are', len(words)) + '\n' + number('rows-count', 'how many rows the table has', len(rows)) + '\n'
       + numbers('listed', 'the bucket of each fixed word', buckets) + '\n'
-      + numbers('firstKeys', 'the numbers of the arms of `first_in`, from the last to the first', [b for b, _ in reversed(first)]) + '\n'
-      + numbers('nextKeys', 'the same of `next_in`', [k for k, _ in reversed(follows)]))
-write('proofs/rows/first_in/Proof.antt', proof('first_in', len(first), 'first', 'firstOf'))
-write('proofs/rows/next_in/Proof.antt', proof('next_in', len(follows), 'next', 'nextOf'))
+      + numbers('lengthKeys', 'the numbers of the arms of `lengths`, from the last to the first', [b for b, _ in reversed(masks)]) + '\n'
+      + numbers('firstKeys', 'the same of `first_in`', [b for b, _ in reversed(first)]) + '\n'
+      + numbers('nextKeys', 'and of `next_in`', [k for k, _ in reversed(follows)]))
+write('proofs/rows/first_in/Proof.antt', chain_proof('first_in', len(first), 'first', 'firstOf'))
+write('proofs/rows/next_in/Proof.antt', chain_proof('next_in', len(follows), 'next', 'nextOf'))
 
 LISTS = 'texts fixedWords typeKeywords otherWords qualifierWords jumpWords boolWords loneWords wordText operators symbolText unaryOperators binaryOperators assignmentOperators'
+
+
+WORDS = 'fixedWords typeKeywords otherWords qualifierWords jumpWords boolWords loneWords wordText'
+write('proofs/rows/lengths/Proof.antt', proof(
+    'lengths', len(masks),
+    ['use Rattle.words.specs.Word.{wordText, qualifierWords, jumpWords, boolWords, loneWords, otherWords}',
+     'use Rattle.words.specs.Table.{typeKeywords, fixedWords}', 'use Rattle.words.specs.Bucket.{lengthsIn, lengthsOf}',
+     'use Rattle.words.proofs.Listed.{lengthKeys}', 'use Rattle.words.proofs.Lengths.{length-arm, length-rest}'],
+    'length-arm', 'lengthsOf lengthsIn ' + WORDS, 'length-rest _ (c .match .rest)', 'lengthKeys'))
 
 
 def law(name, start, text, entries, kind, to_text):

@@ -9,3 +9,4 @@ pub mod Rule
 pub mod Names
 pub mod Sections
 pub mod Examples
+pub mod Lengths

@@ -1,5 +1,5 @@
 -- A rule for each number below n, from one test that antt computes; and what a `match` says of the numbers that no arm names. Assumes nothing.
-use mathlib.Core.Path.{_≡_, sym, subst}
+use mathlib.Core.Path.{_≡_, refl, sym, subst}
 use mathlib.Core.Bool.{Bool, true, false, _&&_, _||_}
 use mathlib.Core.List.{List, [], _∷_}
 use mathlib.Core.Logic.{⊎-elim}
@@ -47,11 +47,12 @@ unfoldable pub among : ℕ → List ℕ → Bool
 among x [] = false
 among x (k ∷ ks) = eqb x k || among x ks
 
+pub not-among : (x : ℕ) (ks : List ℕ) → None x ks → among x ks ≡ false
+unfolding among
+not-among x [] apart = refl
+not-among x (k ∷ ks) apart = rw (ne-eqb x k (apart .1)) (not-among x ks (apart .0))
+
 -- f is r at all numbers below n that are none of ks
 pub otherwise : (f : ℕ → ℕ) (r : ℕ) (ks : List ℕ) (n : ℕ) → T (below n (λ x. among x ks || eqb r (f x))) → (x : ℕ) → x < n → None x ks → r ≡ f x
-unfolding among
-otherwise f r ks n t x h apart = eqb→eq r (f x) (left ks apart (at (λ x. among x ks || eqb r (f x)) n t x h))
-  where
-    left : (ks : List ℕ) → None x ks → T (among x ks || eqb r (f x)) → T (eqb r (f x))
-    left [] apart t = t
-    left (k ∷ ks) apart t = left ks (apart .0) (subst (λ (b : Bool). T (b || among x ks || eqb r (f x))) (ne-eqb x k (apart .1)) t)
+otherwise f r ks n t x h apart =
+    eqb→eq r (f x) (subst (λ (b : Bool). T (b || eqb r (f x))) (not-among x ks apart) (at (λ x. among x ks || eqb r (f x)) n t x h))

@@ -7,7 +7,7 @@ ghost use Prim.Native.Nat.{_<_, _≤_, _+_};
 ghost use lib.Dec.{leb, eqb};
 ghost use lib.ListN.{length, drop};
 ghost use Rattle.words.specs.Table as Table;
-ghost use Rattle.words.specs.Bucket.{bucket};
+ghost use Rattle.words.specs.Bucket.{bucket, mayBeWord};
 ghost use Rattle.words.specs.Form as Form;
 
 pub mod rows;
@@ -105,6 +105,15 @@ fn same(a: &[u8], b: &[u8]) -> bool
     true
 }
 
+// Whether a fixed word begins as s does and is as long. This alone tells most names from all fixed words.
+fn may_be_word(s: &[u8]) -> bool
+    requires { ⌜ (0 < length (now s)) × (length (now s) ≤ 23) ⌝ }
+    ensures { λ r. ⌜ r ≡ mayBeWord (now (s .entry)) ⌝ }
+{
+    let n = s.len() as u32;
+    (rows::lengths(s[0]) >> n) % 2 == 1
+}
+
 fn bucket_of(s: &[u8]) -> usize
     requires { ⌜ (0 < length (now s)) × (length (now s) ≤ 23) ⌝ }
     ensures { λ r. ⌜ r ≡ bucket (now (s .entry)) ⌝ }
@@ -122,6 +131,9 @@ pub fn is_fixed_word(table: &Words, s: &[u8]) -> bool
         return false;
     }
     if WIDEST < s.len() {
+        return false;
+    }
+    if !may_be_word(s) {
         return false;
     }
     let mut k = rows::first_in(bucket_of(s));

@@ -2,7 +2,7 @@
 ghost use mathlib.Core.Path.{_≡_};
 ghost use Prim.Native.Nat.{_+_, _<_};
 ghost use lib.ListN.{getD, length};
-ghost use Rattle.words.specs.Bucket.{buckets, seek};
+ghost use Rattle.words.specs.Bucket.{lengthsOf, buckets, seek};
 
 pub type Words = [u8; 3120];
 
@@ -176,7 +176,35 @@ pub const TABLE: Words = *b"\
     ^=                     \x02\
     |=                     \x02";
 
-// The first row with a word of the bucket b, or UNARY, behind the fixed words. (One number an arm, so that it compiles to a look into a constant.)
+// The lengths of the fixed words that begin with x, a bit for each. (One number an arm in these three, so that each compiles to a look into a constant.)
+pub fn lengths(x: u8) -> u32
+    ensures { λ r. ⌜ r ≡ lengthsOf x ⌝ }
+{
+    match x {
+        97 => 2560,
+        98 => 112,
+        99 => 304,
+        100 => 228,
+        101 => 16,
+        102 => 56,
+        104 => 32,
+        105 => 556,
+        108 => 80,
+        109 => 208,
+        110 => 8192,
+        111 => 8,
+        112 => 672,
+        114 => 320,
+        115 => 52800,
+        116 => 16,
+        117 => 176,
+        118 => 400,
+        119 => 544,
+        _ => 0,
+    }
+}
+
+// The first row with a word of the bucket b, or UNARY, behind the fixed words.
 pub fn first_in(b: usize) -> usize
     requires { ⌜ b < 128 ⌝ }
     ensures { λ r. ⌜ r ≡ seek 0 b ⌝ }

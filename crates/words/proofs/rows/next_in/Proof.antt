@@ -1,4 +1,4 @@
--- `words::rows::next_in` meets its contract: each arm by computation, all other numbers by one computed test. Written by tools/words.py. Assumes nothing.
+-- `words::rows::next_in` meets its contract: each arm by computation, all other numbers by one law. Written by tools/words.py. Assumes nothing.
 use mathlib.Core.Path.{refl}
 use Rattle.words.specs.Bucket.{before}
 use Rattle.words.proofs.Listed.{listed, nextKeys}
