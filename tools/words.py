@@ -101,7 +101,8 @@ write('src/rows.rt', '''// The table's bytes, where its sections begin, and wher
 ghost use mathlib.Core.Path.{_≡_};
 ghost use Prim.Native.Nat.{_+_, _<_};
 ghost use lib.ListN.{getD, length};
-ghost use Rattle.words.specs.Bucket.{lengthsOf, buckets, seek};
+ghost use Rattle.words.specs.Length.{lengthsOf};
+ghost use Rattle.words.specs.Bucket.{buckets, seek};
 
 pub type Words = [u8; %d];
 
@@ -168,7 +169,7 @@ WORDS = 'fixedWords typeKeywords otherWords qualifierWords jumpWords boolWords l
 write('proofs/rows/lengths/Proof.antt', proof(
     'lengths', len(masks),
     ['use Rattle.words.specs.Word.{wordText, qualifierWords, jumpWords, boolWords, loneWords, otherWords}',
-     'use Rattle.words.specs.Table.{typeKeywords, fixedWords}', 'use Rattle.words.specs.Bucket.{lengthsIn, lengthsOf}',
+     'use Rattle.words.specs.Table.{typeKeywords, fixedWords}', 'use Rattle.words.specs.Length.{lengthsIn, lengthsOf}',
      'use Rattle.words.proofs.Listed.{lengthKeys}', 'use Rattle.words.proofs.Lengths.{length-arm, length-rest}'],
     'length-arm', 'lengthsOf lengthsIn ' + WORDS, 'length-rest _ (c .match .rest)', 'lengthKeys'))
 

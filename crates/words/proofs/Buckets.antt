@@ -1,10 +1,8 @@
 -- The buckets of the fixed words as numbers, and with them what each arm of `first_in` and `next_in` returns. Assumes nothing.
 use mathlib.Core.Path.{_≡_, refl, sym, _∙_, ap}
-use mathlib.Core.List.{List, [], _∷_}
 use Prim.Native.Nat.{ℕ, _+_, _<_}
 use native.Mathlib.Nat.{zero-add}
 use lib.ListN.{length, getD, drop}
-use lib.Dec.{T, eqb, eqb→eq}
 use Rattle.words.specs.Word.{wordText, qualifierWords, jumpWords, boolWords, loneWords, otherWords}
 use Rattle.words.specs.Table.{typeKeywords, fixedWords}
 use Rattle.words.specs.Bucket.{buckets, before, seek}

@@ -1,6 +1,6 @@
 -- What each arm of `lengths` returns, and that a fixed word passes `mayBeWord`. Assumes nothing.
 use mathlib.Core.Path.{_≡_, refl, sym, _∙_, ap, subst}
-use mathlib.Core.Bool.{Bool, true, false, _&&_, _||_, cond}
+use mathlib.Core.Bool.{Bool, true, false, cond}
 use mathlib.Core.List.{List, [], _∷_}
 use Prim.Native.Nat.{ℕ}
 use Prim.Native.String.{String}
@@ -11,7 +11,7 @@ use Rattle.words.specs.Bytes.{bytes}
 use Rattle.words.specs.Word.{wordText, qualifierWords, jumpWords, boolWords, loneWords, otherWords}
 use Rattle.words.specs.Table.{typeKeywords, fixedWords}
 use Rattle.words.specs.Form.{oneOf}
-use Rattle.words.specs.Bucket.{withBit, lengthsIn, lengthsOf, mayBeWord}
+use Rattle.words.specs.Length.{withBit, lengthsIn, lengthsOf, mayBeWord}
 use Rattle.words.proofs.Listed.{lengthKeys}
 use Rattle.words.proofs.Search.{everyWord, none-of}
 use Rattle.words.proofs.Tests.{both-left, both-right, among, None, not-among}

@@ -1,7 +1,7 @@
 -- The rule of the table, by one computed test each, and as a law at each row: the fixed words have the form of words, they are all different, and so are
 -- the operators within a section. (That no text is longer than the widest is `text-fits` of Places.) Assumes nothing.
 use mathlib.Core.Path.{_≡_, refl, sym, ap, subst}
-use mathlib.Core.Bool.{Bool, true, false, not, _&&_, _||_}
+use mathlib.Core.Bool.{Bool, true, false, not, _&&_}
 use mathlib.Core.List.{List, [], _∷_, map}
 use Prim.Native.Nat.{ℕ, zero, suc, _<_}
 use Prim.Native.String.{String}

@@ -1,13 +1,12 @@
 // The words and operators that a printer writes, in one table, and the form of a name and of a float's text.
 // A public call of a crate above makes the table once, `let t = words::table();`, and lends it down, `&t`: a constant array that is indexed
-// in place would be built anew at each use.
+// in place would be built anew at each use. What follows from the word list of specs/ is written by tools/words.py, in src/rows.rt.
 ghost use mathlib.Core.Path.{_≡_};
-ghost use mathlib.Core.Bool.{_&&_, _||_};
 ghost use Prim.Native.Nat.{_<_, _≤_, _+_};
-ghost use lib.Dec.{leb, eqb};
 ghost use lib.ListN.{length, drop};
 ghost use Rattle.words.specs.Table as Table;
-ghost use Rattle.words.specs.Bucket.{bucket, mayBeWord};
+ghost use Rattle.words.specs.Length.{mayBeWord};
+ghost use Rattle.words.specs.Bucket.{bucket};
 ghost use Rattle.words.specs.Form as Form;
 
 pub mod rows;
@@ -25,6 +24,7 @@ const LONGEST_NAME: usize = 255;
 
 const LONGEST_FLOAT: usize = 400;
 
+// The table, made once and lent from then on.
 pub fn table() -> Words
     ensures { λ r. ⌜ r ≡ Table.table ⌝ }
 {

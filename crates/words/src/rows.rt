@@ -2,7 +2,8 @@
 ghost use mathlib.Core.Path.{_≡_};
 ghost use Prim.Native.Nat.{_+_, _<_};
 ghost use lib.ListN.{getD, length};
-ghost use Rattle.words.specs.Bucket.{lengthsOf, buckets, seek};
+ghost use Rattle.words.specs.Length.{lengthsOf};
+ghost use Rattle.words.specs.Bucket.{buckets, seek};
 
 pub type Words = [u8; 3120];
 

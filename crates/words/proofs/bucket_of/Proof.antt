@@ -1,5 +1,4 @@
 -- `words::bucket_of` meets its contract: two bytes and a short length make no sum that wraps. Assumes nothing.
-use native.Mathlib.Omega.{arith}
 use borrow.Author.Needs.{needs}
 use Rattle.words.proofs.bucket_of.Statement.{statement}
 use Rattle.words.proofs.bucket_of.Tie as tie

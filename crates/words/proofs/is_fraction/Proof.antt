@@ -1,5 +1,5 @@
 -- `words::is_fraction` meets its contract, a law for each answer. Assumes nothing.
-use mathlib.Core.Path.{sym, _∙_}
+use mathlib.Core.Path.{sym}
 use native.Mathlib.Omega.{arith}
 use Rattle.words.proofs.Floats.{fraction-nothing, fraction-cut, fraction-whole}
 use borrow.Author.Needs.{needs}

@@ -3,7 +3,7 @@ use mathlib.Core.Path.{ap}
 use Prim.Native.Nat.{ℕ, _/_, _%_, _^_}
 use lib.Dec.{eqb}
 use lib.ListN.{length}
-use Rattle.words.specs.Bucket.{mayBeWord}
+use Rattle.words.specs.Length.{mayBeWord}
 use borrow.Author.Needs.{needs}
 use Rattle.words.proofs.may_be_word.Statement.{statement}
 use Rattle.words.proofs.may_be_word.Tie as tie

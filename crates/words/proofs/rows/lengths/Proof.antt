@@ -2,7 +2,7 @@
 use mathlib.Core.Path.{refl}
 use Rattle.words.specs.Word.{wordText, qualifierWords, jumpWords, boolWords, loneWords, otherWords}
 use Rattle.words.specs.Table.{typeKeywords, fixedWords}
-use Rattle.words.specs.Bucket.{lengthsIn, lengthsOf}
+use Rattle.words.specs.Length.{lengthsIn, lengthsOf}
 use Rattle.words.proofs.Listed.{lengthKeys}
 use Rattle.words.proofs.Lengths.{length-arm, length-rest}
 use Rattle.words.proofs.rows.lengths.Statement.{statement}
