@@ -1,44 +1,85 @@
 #!/usr/bin/env python3
-# Writes what follows from the word list in crates/words/specs: src/rows.rt (the table, and the two functions that say where in it a word is looked for)
-# and the proofs of these two functions, whose answers are the same line for each arm. Run it from the repository's root after a change of the list.
+"""Writes what follows from the word list in crates/words/specs (Table, Word, Symbol):
+
+    src/rows.rt             the table, where its sections begin, and the three functions by which a fixed word is looked for
+    proofs/rows/*/Proof     the proofs of these three, whose answers are one line, repeated for each arm
+    proofs/Listed           the numbers that these proofs compute with
+    proofs/Sections         one law a section, which ties the rows to the list
+
+Run it from the repository's root after a change of the list. Nothing here is trusted: the check proves all of it against the list."""
 import re
 
 CRATE = 'crates/words/'
-WIDEST, BUCKETS = 23, 128
+WIDEST, BUCKETS = 23, 128  # as specs/Table and specs/Bucket have them
 
+
+# ---- the list
 
 def spec(name):
     return open(CRATE + 'specs/' + name + '.antt', encoding='utf-8').read()
 
 
-def listed(text, name):
+def listed(file, name):
     """The entries of the list `name`."""
-    body = re.search(r'^%s =(.*?)\[\]' % name, text, re.M | re.S).group(1)
-    return [entry.strip() for entry in body.split('∷') if entry.strip()]
+    body = re.search(r'^%s =(.*?)\[\]' % name, spec(file), re.M | re.S).group(1)
+    return [entry.strip().strip('"') for entry in body.split('∷') if entry.strip()]
 
 
-def texts(text, function):
+def text_of(file, function):
     """What `function` maps each constructor to."""
-    return {m.group(1).strip('()'): m.group(2) for m in re.finditer(r'^%s (.*) = "(.*)"$' % function, text, re.M)}
+    return {m.group(1).strip('()'): m.group(2) for m in re.finditer(r'^%s (.*) = "(.*)"$' % function, spec(file), re.M)}
 
+
+# name in code and in laws, file of specs, list, the type of its entries, what makes a text of one (nothing: it is one)
+SECTIONS = [('type', 'Table', 'typeKeywords', 'String', ''),
+            ('qualifier', 'Word', 'qualifierWords', 'Word', 'wordText'),
+            ('jump', 'Word', 'jumpWords', 'Word', 'wordText'),
+            ('bool', 'Word', 'boolWords', 'Word', 'wordText'),
+            ('lone', 'Word', 'loneWords', 'Word', 'wordText'),
+            ('unary', 'Symbol', 'unaryOperators', 'Symbol', 'symbolText'),
+            ('binary', 'Symbol', 'binaryOperators', 'Symbol', 'symbolText'),
+            ('assignment', 'Symbol', 'assignmentOperators', 'Symbol', 'symbolText')]
+
+rows, starts, sizes, words_count = [], {}, {}, 0
+for name, file, entries, kind, function in SECTIONS:
+    starts[name], sizes[name] = len(rows), len(listed(file, entries))
+    rows += [text_of(file, function)[e] if function else e for e in listed(file, entries)]
+    if file != 'Symbol':
+        words_count = len(rows)
+words = rows[:words_count]
+lone = [(w, w.strip('«»'), starts['lone'] + k) for k, w in enumerate(listed('Word', 'loneWords'))]
+
+# what a definition must unfold for the words, and for all texts, to be seen
+WORDS = 'fixedWords typeKeywords otherWords qualifierWords jumpWords boolWords loneWords wordText'
+TEXTS = 'texts ' + WORDS + ' operators symbolText unaryOperators binaryOperators assignmentOperators'
+
+
+# ---- what follows from it
 
 def bucket(word):
-    """As `bucket` of specs/Bucket.antt has it."""
     return (5 * ord(word[0]) + 7 * ord(word[-1]) + 3 * len(word)) % BUCKETS
 
 
-def fixed_words():
-    types = [entry.strip('"') for entry in listed(spec('Table'), 'typeKeywords')]
-    word = texts(spec('Word'), 'wordText')
-    return types + [word[w] for l in ('qualifierWords', 'jumpWords', 'boolWords', 'loneWords') for w in listed(spec('Word'), l)]
+buckets = [bucket(w) for w in words]
+# the arms of the three functions
+lengths = sorted({(ord(w[0]), sum({1 << len(v) for v in words if v[0] == w[0]})) for w in words})
+first = sorted({(b, buckets.index(b)) for b in buckets})
+following = [(k, buckets.index(b, k + 1)) for k, b in enumerate(buckets) if b in buckets[k + 1:]]
 
 
-def operators():
-    symbol = texts(spec('Symbol'), 'symbolText')
-    return [symbol[s] for l in ('unaryOperators', 'binaryOperators', 'assignmentOperators') for s in listed(spec('Symbol'), l)]
+# ---- the files
+
+def write(name, text):
+    open(CRATE + name, 'w', encoding='utf-8').write(text)
 
 
-def table(rows):
+def constants():
+    plural = {'type': 'TYPES', 'qualifier': 'QUALIFIERS', 'jump': 'JUMPS', 'bool': 'BOOLS'}
+    named = [(plural.get(n, n.upper()), at) for n, at in starts.items() if n != 'lone'] + [(n.upper(), at) for _, n, at in lone] + [('ROWS', len(rows))]
+    return '\n\n'.join('pub const %s: usize = %d;' % c for c in sorted(named, key=lambda c: c[1]))
+
+
+def table():
     return '\\\n'.join('    %s\\x%02x' % (row.ljust(WIDEST), len(row)) for row in rows)
 
 
@@ -46,170 +87,147 @@ def arms(pairs, otherwise):
     return '\n'.join('        %d => %d,' % pair for pair in pairs) + '\n        _ => %d,' % otherwise
 
 
-def proof(function, count, uses, arm, unfolds, rest, rest_unfolds):
-    """A proof whose needs are one `returns` for each arm, and one for all other numbers."""
-    names = ['returns' if k == 1 else 'returns-%d' % k for k in range(1, count + 2)]
-    path = 'Rattle.words.proofs.rows.' + function
-    out = ['-- `words::rows::%s` meets its contract: each arm by computation, all other numbers by one law. Written by tools/words.py. Assumes nothing.' % function,
-           'use mathlib.Core.Path.{refl}', *uses, 'use %s.Statement.{statement}' % path, 'use %s.Tie as tie' % path, '']
-    for k, name in enumerate(names, 1):
-        last = k > count
-        out += ['%s : tie.Need-%s' % (name, name), 'unfolding ' + (rest_unfolds if last else unfolds),
-                '%s c = %s' % (name, rest if last else '%s (c .match .keys%d) refl' % (arm, k)), '']
-    spec_name = function.replace('_', '-') + '-spec'
-    out += ['pub %s : {M : Type 1} → statement M' % spec_name, '%s =' % spec_name, '    tie.close', '    (tie.spec', *('    ' + n for n in names)]
-    out[-1] += ')'
-    return '\n'.join(out) + '\n'
+write('src/rows.rt', f'''// The table's bytes, where its sections begin, and where in it a fixed word is looked for. Written by tools/words.py from the word list in specs/.
+ghost use mathlib.Core.Path.{{_≡_}};
+ghost use Prim.Native.Nat.{{_+_, _<_}};
+ghost use lib.ListN.{{getD, length}};
+ghost use Rattle.words.specs.Length.{{lengthsOf}};
+ghost use Rattle.words.specs.Bucket.{{buckets, seek}};
 
-
-def chain_proof(function, count, law, of):
-    return proof(function, count,
-                 ['use Rattle.words.specs.Bucket.{before}', 'use Rattle.words.proofs.Listed.{listed, %sKeys}' % law,
-                  'use Rattle.words.proofs.Buckets.{%s, %s-arm, %s-rest}' % (of, law, law)],
-                 law + '-arm', of + ' before listed', '%s-rest _ (c .before .pre) (c .match .rest)' % law, 'listed %sKeys' % law)
-
-
-def write(name, text):
-    open(CRATE + name, 'w', encoding='utf-8').write(text)
-
-
-words = fixed_words()
-rows = words + operators()
-buckets = [bucket(w) for w in words]
-first = sorted({b: buckets.index(b) for b in buckets}.items())
-follows = [(k, buckets.index(b, k + 1)) for k, b in enumerate(buckets) if b in buckets[k + 1:]]
-masks = sorted({w[0]: (ord(w[0]), sum({1 << len(v) for v in words if v[0] == w[0]})) for w in words}.values())
-LONE = [l.upper().strip('«»') for l in listed(spec('Word'), 'loneWords')]
-
-
-def sections():
-    """Where each section begins, and each lone word."""
-    lists = [('QUALIFIERS', spec('Word'), 'qualifierWords'), ('JUMPS', spec('Word'), 'jumpWords'), ('BOOLS', spec('Word'), 'boolWords')]
-    out, at = [('TYPES', 0)], len(listed(spec('Table'), 'typeKeywords'))
-    for name, text, entries in lists:
-        out.append((name, at))
-        at += len(listed(text, entries))
-    out += [(name, at + k) for k, name in enumerate(LONE)]
-    at += len(LONE)
-    for name, entries in (('UNARY', 'unaryOperators'), ('BINARY', 'binaryOperators'), ('ASSIGNMENT', 'assignmentOperators')):
-        out.append((name, at))
-        at += len(listed(spec('Symbol'), entries))
-    return out + [('ROWS', at)]
-
-
-write('src/rows.rt', '''// The table's bytes, where its sections begin, and where in it a fixed word is looked for. Written by tools/words.py from the word list in specs/.
-ghost use mathlib.Core.Path.{_≡_};
-ghost use Prim.Native.Nat.{_+_, _<_};
-ghost use lib.ListN.{getD, length};
-ghost use Rattle.words.specs.Length.{lengthsOf};
-ghost use Rattle.words.specs.Bucket.{buckets, seek};
-
-pub type Words = [u8; %d];
+pub type Words = [u8; {len(rows) * (WIDEST + 1)}];
 
 // The row at which each section begins (by variant from there on), the row of each lone word, and the number of rows.
-%s
+{constants()}
+
 // A row a line: the text, blanks, and the text's length.
 pub const TABLE: Words = *b"\\
-%s";
+{table()}";
 
 // The lengths of the fixed words that begin with x, a bit for each. (One number an arm in these three, so that each compiles to a look into a constant.)
 pub fn lengths(x: u8) -> u32
-    ensures { λ r. ⌜ r ≡ lengthsOf x ⌝ }
-{
-    match x {
-%s
-    }
-}
+    ensures {{ λ r. ⌜ r ≡ lengthsOf x ⌝ }}
+{{
+    match x {{
+{arms(lengths, 0)}
+    }}
+}}
 
 // The first row with a word of the bucket b, or UNARY, behind the fixed words.
 pub fn first_in(b: usize) -> usize
-    requires { ⌜ b < %d ⌝ }
-    ensures { λ r. ⌜ r ≡ seek 0 b ⌝ }
-{
-    match b {
-%s
-    }
-}
+    requires {{ ⌜ b < {BUCKETS} ⌝ }}
+    ensures {{ λ r. ⌜ r ≡ seek 0 b ⌝ }}
+{{
+    match b {{
+{arms(first, words_count)}
+    }}
+}}
 
 // The next row behind k with a word of k's own bucket, or UNARY.
 pub fn next_in(k: usize) -> usize
-    requires { ⌜ k < length buckets ⌝ }
-    ensures { λ r. ⌜ r ≡ seek (k + 1) (getD buckets k 0) ⌝ }
-{
-    match k {
-%s
-    }
-}
-''' % (len(rows) * (WIDEST + 1), ''.join('pub const %s: usize = %d;\n' % s for s in sections()), table(rows), arms(masks, 0), BUCKETS, arms(first, len(words)),
-       arms(follows, len(words))))
+    requires {{ ⌜ k < length buckets ⌝ }}
+    ensures {{ λ r. ⌜ r ≡ seek (k + 1) (getD buckets k 0) ⌝ }}
+{{
+    match k {{
+{arms(following, words_count)}
+    }}
+}}
+''')
 
 
 def number(name, says, n):
-    return '-- %s\nabbrev pub %s : ℕ\n%s = %d\n' % (says, name, name, n)
+    return f'-- {says}\nabbrev pub {name} : ℕ\n{name} = {n}\n'
 
 
 def numbers(name, says, ns):
-    return '-- %s\nunfoldable pub %s : List ℕ\n%s = %s\n' % (says, name, name, ' ∷ '.join(map(str, ns + ['[]'])))
+    return f'-- {says}\nunfoldable pub {name} : List ℕ\n{name} = ' + ' ∷ '.join(map(str, [*ns, '[]'])) + '\n'
 
 
-write('proofs/Listed.antt', '-- The numbers behind `lengths`, `first_in` and `next_in`. Written by tools/words.py. Assumes nothing.\n'
-      'use mathlib.Core.List.{List, [], _∷_}\nuse Prim.Native.Nat.{ℕ}\n\n'
-      + number('words-count', 'how many fixed words there are', len(words)) + '\n' + number('rows-count', 'how many rows the table has', len(rows)) + '\n'
-      + numbers('listed', 'the bucket of each fixed word', buckets) + '\n'
-      + numbers('lengthKeys', 'the numbers of the arms of `lengths`, from the last to the first', [b for b, _ in reversed(masks)]) + '\n'
-      + numbers('firstKeys', 'the same of `first_in`', [b for b, _ in reversed(first)]) + '\n'
-      + numbers('nextKeys', 'and of `next_in`', [k for k, _ in reversed(follows)]))
-write('proofs/rows/first_in/Proof.antt', chain_proof('first_in', len(first), 'first', 'firstOf'))
-write('proofs/rows/next_in/Proof.antt', chain_proof('next_in', len(follows), 'next', 'nextOf'))
-
-LISTS = 'texts fixedWords typeKeywords otherWords qualifierWords jumpWords boolWords loneWords wordText operators symbolText unaryOperators binaryOperators assignmentOperators'
+def keys(pairs):
+    return [key for key, _ in reversed(pairs)]
 
 
-WORDS = 'fixedWords typeKeywords otherWords qualifierWords jumpWords boolWords loneWords wordText'
-write('proofs/rows/lengths/Proof.antt', proof(
-    'lengths', len(masks),
-    ['use Rattle.words.specs.Word.{wordText, qualifierWords, jumpWords, boolWords, loneWords, otherWords}',
-     'use Rattle.words.specs.Table.{typeKeywords, fixedWords}', 'use Rattle.words.specs.Length.{lengthsIn, lengthsOf}',
-     'use Rattle.words.proofs.Listed.{lengthKeys}', 'use Rattle.words.proofs.Lengths.{length-arm, length-rest}'],
-    'length-arm', 'lengthsOf lengthsIn ' + WORDS, 'length-rest _ (c .match .rest)', 'lengthKeys'))
+write('proofs/Listed.antt', '\n'.join([
+    '-- The numbers behind `lengths`, `first_in` and `next_in`. Written by tools/words.py. Assumes nothing.\n'
+    'use mathlib.Core.List.{List, [], _∷_}\nuse Prim.Native.Nat.{ℕ}\n',
+    number('words-count', 'how many fixed words there are', words_count),
+    number('rows-count', 'how many rows the table has', len(rows)),
+    numbers('listed', 'the bucket of each fixed word', buckets),
+    numbers('lengthKeys', 'the numbers of the arms of `lengths`, from the last to the first', keys(lengths)),
+    numbers('firstKeys', 'the same of `first_in`', keys(first)),
+    numbers('nextKeys', 'and of `next_in`', keys(following))]))
 
 
-def law(name, start, text, entries, kind, to_text):
-    """The rows of a section, by variant."""
-    count = len(listed(text, entries))
-    return '''pub %s-row : (v : ℕ) → v < %d → (d : %s) → textAt (%d + v) ≡ bytes (%s (getD %s v d))
-unfolding %s
-%s-row v h d = section %s %d %s refl v h d
-''' % (name, count, kind, start, to_text, entries, LISTS, name, to_text, start, entries)
+def arm_proof(function, pairs, uses, arm, arm_unfolds, rest, rest_unfolds):
+    """A proof whose needs are one `returns` for each arm, and one for all other numbers."""
+    names = ['returns'] + ['returns-%d' % k for k in range(2, len(pairs) + 2)]
+    here, result = 'Rattle.words.proofs.rows.' + function, function.replace('_', '-') + '-spec'
+    out = [f'-- `words::rows::{function}` meets its contract: each arm by computation, all other numbers by one law. Written by tools/words.py. Assumes nothing.',
+           'use mathlib.Core.Path.{refl}', *uses, f'use {here}.Statement.{{statement}}', f'use {here}.Tie as tie', '']
+    for k, name in enumerate(names, 1):
+        last = k > len(pairs)
+        out += [f'{name} : tie.Need-{name}', 'unfolding ' + (rest_unfolds if last else arm_unfolds),
+                f'{name} c = ' + (rest if last else f'{arm} (c .match .keys{k}) refl'), '']
+    out += [f'pub {result} : {{M : Type 1}} → statement M', f'{result} =', '    tie.close', '    (tie.spec'] + ['    ' + n for n in names]
+    write(f'proofs/rows/{function}/Proof.antt', '\n'.join(out) + ')\n')
 
 
-def laws():
-    at = dict(sections())
-    out = [law('qualifier', at['QUALIFIERS'], spec('Word'), 'qualifierWords', 'Word', 'wordText'),
-           law('jump', at['JUMPS'], spec('Word'), 'jumpWords', 'Word', 'wordText'),
-           law('bool', at['BOOLS'], spec('Word'), 'boolWords', 'Word', 'wordText'),
-           law('unary', at['UNARY'], spec('Symbol'), 'unaryOperators', 'Symbol', 'symbolText'),
-           law('binary', at['BINARY'], spec('Symbol'), 'binaryOperators', 'Symbol', 'symbolText'),
-           law('assignment', at['ASSIGNMENT'], spec('Symbol'), 'assignmentOperators', 'Symbol', 'symbolText')]
-    for word, name in zip(listed(spec('Word'), 'loneWords'), LONE):
-        out.append('pub %s-row : textAt %d ≡ bytes (wordText Word.%s)\nunfolding textAt %s\n%s-row = refl\n' % (name.lower(), at[name], word, LISTS, name.lower()))
-    return '\n'.join(out)
+def row_proof(function, pairs, law):
+    arm_proof(function, pairs,
+              ['use Rattle.words.specs.Bucket.{before}', f'use Rattle.words.proofs.Listed.{{listed, {law}Keys}}',
+               f'use Rattle.words.proofs.Buckets.{{{law}Of, {law}-arm, {law}-rest}}'],
+              f'{law}-arm', f'{law}Of before listed', f'{law}-rest _ (c .before .pre) (c .match .rest)', f'listed {law}Keys')
 
 
-write('proofs/Sections.antt', '''-- The rows by what they hold: one law a section, over the variant, and one for each lone word. Written by tools/words.py. Assumes nothing.
+row_proof('first_in', first, 'first')
+row_proof('next_in', following, 'next')
+arm_proof('lengths', lengths,
+          ['use Rattle.words.specs.Word.{wordText, qualifierWords, jumpWords, boolWords, loneWords, otherWords}',
+           'use Rattle.words.specs.Table.{typeKeywords, fixedWords}', 'use Rattle.words.specs.Length.{lengthsIn, lengthsOf}',
+           'use Rattle.words.proofs.Listed.{lengthKeys}', 'use Rattle.words.proofs.Lengths.{length-arm, length-rest}'],
+          'length-arm', 'lengthsOf lengthsIn ' + WORDS, 'length-rest _ (c .match .rest)', 'lengthKeys')
+
+
+def row_law(name, file, entries, kind, function):
+    """What stands in the rows of a section, by variant."""
+    n, at = sizes[name], starts[name]
+    if not function:
+        return (f'pub {name}-row : (v : ℕ) → v < {n} → textAt v ≡ bytes (getD {entries} v "")\nunfolding {TEXTS}\n'
+                f'{name}-row v h = ap textAt (sym (zero-add v)) ∙ section-text 0 {n} {entries} refl v h\n')
+    return (f'pub {name}-row : (v : ℕ) → v < {n} → (d : {kind}) → textAt ({at} + v) ≡ bytes ({function} (getD {entries} v d))\nunfolding {TEXTS}\n'
+            f'{name}-row v h d = section {function} {at} {entries} refl v h d\n')
+
+
+def lone_law(word, name, at):
+    return f'pub {name}-row : textAt {at} ≡ bytes (wordText Word.{word})\nunfolding textAt {TEXTS}\n{name}-row = refl\n'
+
+
+def apart_law(name, entries, kind, function):
+    """No two rows of a section have one text."""
+    n, at = sizes[name], starts[name]
+    return (f'pub {name}-apart : (j k : ℕ) → j < {n} → k < {n} → textAt ({at} + j) ≡ textAt ({at} + k) → j ≡ k\n'
+            f'unfolding different oneOf same {TEXTS}\n{name}-apart = rows-apart {at} (map {function} {entries}) refl tt\n')
+
+
+write('proofs/Sections.antt', '\n'.join([
+    '''-- The rows by what they hold: a law for each section, over the variant, and for each lone word; and that no two rows of a section have one text. Written by
+-- tools/words.py. Assumes nothing.
 use mathlib.Core.Path.{_≡_, refl, sym, _∙_, ap}
+use mathlib.Core.List.{map}
 use Prim.Native.Nat.{ℕ, _+_, _<_}
-use Prim.Native.String.{String}
 use native.Mathlib.Nat.{zero-add}
 use lib.ListN.{getD}
 use Rattle.words.specs.Bytes.{bytes}
 use Rattle.words.specs.Word.{Word, wordText, qualifierWords, jumpWords, boolWords, loneWords, otherWords}
 use Rattle.words.specs.Symbol.{Symbol, symbolText, unaryOperators, binaryOperators, assignmentOperators}
 use Rattle.words.specs.Table.{typeKeywords, fixedWords, operators, texts, textAt}
-use Rattle.words.proofs.Places.{section}
-
-pub type-row : (v : ℕ) → v < %d → textAt v ≡ bytes (getD typeKeywords v "")
-unfolding %s
-type-row v h = ap textAt (sym (zero-add v)) ∙ section (λ (t : String). t) 0 typeKeywords refl v h ""
-
-%s''' % (len(listed(spec('Table'), 'typeKeywords')), LISTS, laws()))
+use Rattle.words.specs.Form.{same, oneOf}
+use Rattle.words.proofs.Places.{section-text, section}
+use Rattle.words.proofs.Rule.{different, rows-apart}
+''',
+    *(row_law(*s) for s in SECTIONS),
+    *(lone_law(*w) for w in lone),
+    f'''pub word-apart : (j k : ℕ) → j < {words_count} → k < {words_count} → textAt j ≡ textAt k → j ≡ k
+unfolding different oneOf same {TEXTS}
+word-apart j k hj hk e = rows-apart 0 fixedWords refl tt j k hj hk (ap textAt (zero-add j) ∙ e ∙ ap textAt (sym (zero-add k)))
+''',
+    *(apart_law(name, entries, kind, function) for name, file, entries, kind, function in SECTIONS if file == 'Symbol')]))

@@ -81,19 +81,20 @@ module _ (t : List ℕ) (is : t ≡ table) (k : ℕ) (h : k < rows-count) where
   pub text-here : (n : ℕ) → n ≡ length (textAt k) → take n (drop (width * k) t) ≡ textAt k
   text-here n e = ap (take n) from-here ∙ take-at (textAt k) _ n (sym e)
 
--- the texts f x of a section that begins at row n, by variant (d is never looked at)
+-- the texts of a section: m rows from row n on
+pub section-text : (n m : ℕ) (ws : List String) → take m (drop n texts) ≡ ws → (v : ℕ) → v < m → textAt (n + v) ≡ bytes (getD ws v "")
+unfolding textAt
+section-text n m ws e v h =
+    ap bytes
+    (sym (getD-drop n texts v "") ∙ sym (getD-take m (drop n texts) v "" h) ∙ ap (λ (l : List String). getD l v "") e)
+
 map-at : {A : Type 0} (f : A → String) (xs : List A) (v : ℕ) (d : A) → v < length xs → getD (map f xs) v "" ≡ f (getD xs v d)
 map-at f [] v d h = absurd (not-suc-le-zero h)
 map-at f (x ∷ xs) zero d h = refl
 map-at f (x ∷ xs) (suc v) d h = map-at f xs v d (le-of-suc-le-suc h)
 
+-- the same where the texts are f of what is listed (d is never looked at)
 pub section :
     {A : Type 0} (f : A → String) (n : ℕ) (xs : List A) → take (length xs) (drop n texts) ≡ map f xs
     → (v : ℕ) → v < length xs → (d : A) → textAt (n + v) ≡ bytes (f (getD xs v d))
-unfolding textAt
-section f n xs e v h d =
-    ap bytes
-    (sym (getD-drop n texts v "")
-    ∙ sym (getD-take (length xs) (drop n texts) v "" h)
-    ∙ ap (λ (l : List String). getD l v "") e
-    ∙ map-at f xs v d h)
+section f n xs e v h d = section-text n (length xs) (map f xs) e v h ∙ ap bytes (map-at f xs v d h)

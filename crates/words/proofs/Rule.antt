@@ -1,20 +1,20 @@
--- The rule of the table, by one computed test each, and as a law at each row: the fixed words have the form of words, they are all different, and so are
--- the operators within a section. (That no text is longer than the widest is `text-fits` of Places.) Assumes nothing.
-use mathlib.Core.Path.{_≡_, refl, sym, ap, subst}
+-- The rule of the table: a computed test of all its words, and the laws that make of a test what holds at each row. The fixed words have the form of words;
+-- the texts of a section that passes `different` are different. (That no text is longer than the widest is `text-fits` of Places.) Assumes nothing.
+use mathlib.Core.Path.{_≡_, refl, sym, _∙_, ap, subst}
 use mathlib.Core.Bool.{Bool, true, false, not, _&&_}
-use mathlib.Core.List.{List, [], _∷_, map}
-use Prim.Native.Nat.{ℕ, zero, suc, _<_}
+use mathlib.Core.List.{List, [], _∷_}
+use Prim.Native.Nat.{ℕ, zero, suc, _+_, _<_}
 use Prim.Native.String.{String}
 use native.Mathlib.Nat.{le-of-suc-le-suc, not-suc-le-zero}
-use lib.ListN.{length, getD}
+use lib.ListN.{length, getD, take, drop}
 use lib.Dec.{T, T-not}
 use borrow.Author.Tests.{lt-leb, eq-eqb}
 use Rattle.words.specs.Bytes.{bytes}
 use Rattle.words.specs.Word.{wordText, qualifierWords, jumpWords, boolWords, loneWords, otherWords}
-use Rattle.words.specs.Symbol.{symbolText, unaryOperators, binaryOperators, assignmentOperators}
-use Rattle.words.specs.Table.{typeKeywords, fixedWords, widest}
+use Rattle.words.specs.Table.{typeKeywords, fixedWords, texts, widest, textAt}
 use Rattle.words.specs.Form.{between, digit, letter, nameByte, all, same, oneOf}
 use Rattle.words.proofs.Laws.{and-false}
+use Rattle.words.proofs.Places.{section-text}
 use Rattle.words.proofs.Search.{everyWord, none-of}
 use Rattle.words.proofs.Tests.{both-left, both-right, either-left, either-right}
 
@@ -75,18 +75,9 @@ one-row (w ∷ ws) t (suc j) zero hj hk e =
 one-row (w ∷ ws) t (suc j) (suc k) hj hk e =
     ap suc (one-row ws (both-right (not (oneOf ws (bytes w))) (different ws) t) j k (le-of-suc-le-suc hj) (le-of-suc-le-suc hk) e)
 
-pub words-different : T (different fixedWords)
-unfolding different oneOf same fixedWords typeKeywords otherWords qualifierWords jumpWords boolWords loneWords wordText
-words-different = tt
-
-pub unary-different : T (different (map symbolText unaryOperators))
-unfolding different oneOf same symbolText unaryOperators
-unary-different = tt
-
-pub binary-different : T (different (map symbolText binaryOperators))
-unfolding different oneOf same symbolText binaryOperators
-binary-different = tt
-
-pub assignment-different : T (different (map symbolText assignmentOperators))
-unfolding different oneOf same symbolText assignmentOperators
-assignment-different = tt
+-- so the rows of a section whose texts are different
+pub rows-apart :
+    (n : ℕ) (ws : List String) → take (length ws) (drop n texts) ≡ ws → T (different ws)
+    → (j k : ℕ) → j < length ws → k < length ws → textAt (n + j) ≡ textAt (n + k) → j ≡ k
+rows-apart n ws e t j k hj hk q =
+    one-row ws t j k hj hk (sym (section-text n (length ws) ws e j hj) ∙ q ∙ section-text n (length ws) ws e k hk)
