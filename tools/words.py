@@ -1,8 +1,9 @@
 #!/usr/bin/env python3
 """Writes what follows from the word list in crates/words/specs (Table, Word, Symbol):
 
-    src/rows.rt             the table, where its sections begin, and the three functions by which a fixed word is looked for
-    proofs/rows/*/Proof     the proofs of these three, whose answers are one line, repeated for each arm
+    src/rows.rt             the table, and where its sections begin
+    src/chains.rt           the three functions by which a fixed word is looked for
+    proofs/chains/*/Proof   the proofs of these three, whose answers are one line, repeated for each arm
     proofs/Listed           the numbers that these proofs compute with
     proofs/Sections         one law a section, which ties the rows to the list
 
@@ -87,13 +88,7 @@ def arms(pairs, otherwise):
     return '\n'.join('        %d => %d,' % pair for pair in pairs) + '\n        _ => %d,' % otherwise
 
 
-write('src/rows.rt', f'''// The table's bytes, where its sections begin, and where in it a fixed word is looked for. Written by tools/words.py from the word list in specs/.
-ghost use mathlib.Core.Path.{{_≡_}};
-ghost use Prim.Native.Nat.{{_+_, _<_}};
-ghost use lib.ListN.{{getD, length}};
-ghost use Rattle.words.specs.Length.{{lengthsOf}};
-ghost use Rattle.words.specs.Bucket.{{buckets, seek}};
-
+write('src/rows.rt', f'''// The table's bytes, and where its sections begin. Written by tools/words.py from the word list in specs/.
 pub type Words = [u8; {len(rows) * (WIDEST + 1)}];
 
 // The row at which each section begins (by variant from there on), the row of each lone word, and the number of rows.
@@ -102,6 +97,14 @@ pub type Words = [u8; {len(rows) * (WIDEST + 1)}];
 // A row a line: the text, blanks, and the text's length.
 pub const TABLE: Words = *b"\\
 {table()}";
+''')
+
+write('src/chains.rt', f'''// Where in the table a fixed word is looked for. Written by tools/words.py from the word list in specs/.
+ghost use mathlib.Core.Path.{{_≡_}};
+ghost use Prim.Native.Nat.{{_+_, _<_}};
+ghost use lib.ListN.{{getD, length}};
+ghost use Rattle.words.specs.Length.{{lengthsOf}};
+ghost use Rattle.words.specs.Bucket.{{buckets, seek}};
 
 // The lengths of the fixed words that begin with x, a bit for each. (One number an arm in these three, so that each compiles to a look into a constant.)
 pub fn lengths(x: u8) -> u32
@@ -112,7 +115,7 @@ pub fn lengths(x: u8) -> u32
     }}
 }}
 
-// The first row with a word of the bucket b, or UNARY, behind the fixed words.
+// The first row with a word of the bucket b, or rows::UNARY, behind the fixed words.
 pub fn first_in(b: usize) -> usize
     requires {{ ⌜ b < {BUCKETS} ⌝ }}
     ensures {{ λ r. ⌜ r ≡ seek 0 b ⌝ }}
@@ -122,7 +125,7 @@ pub fn first_in(b: usize) -> usize
     }}
 }}
 
-// The next row behind k with a word of k's own bucket, or UNARY.
+// The next row behind k with a word of k's own bucket, or rows::UNARY.
 pub fn next_in(k: usize) -> usize
     requires {{ ⌜ k < length buckets ⌝ }}
     ensures {{ λ r. ⌜ r ≡ seek (k + 1) (getD buckets k 0) ⌝ }}
@@ -160,15 +163,15 @@ write('proofs/Listed.antt', '\n'.join([
 def arm_proof(function, pairs, uses, arm, arm_unfolds, rest, rest_unfolds):
     """A proof whose needs are one `returns` for each arm, and one for all other numbers."""
     names = ['returns'] + ['returns-%d' % k for k in range(2, len(pairs) + 2)]
-    here, result = 'Rattle.words.proofs.rows.' + function, function.replace('_', '-') + '-spec'
-    out = [f'-- `words::rows::{function}` meets its contract: each arm by computation, all other numbers by one law. Written by tools/words.py. Assumes nothing.',
+    here, result = 'Rattle.words.proofs.chains.' + function, function.replace('_', '-') + '-spec'
+    out = [f'-- `words::chains::{function}` meets its contract: each arm by computation, all other numbers by one law. Written by tools/words.py. Assumes nothing.',
            'use mathlib.Core.Path.{refl}', *uses, f'use {here}.Statement.{{statement}}', f'use {here}.Tie as tie', '']
     for k, name in enumerate(names, 1):
         last = k > len(pairs)
         out += [f'{name} : tie.Need-{name}', 'unfolding ' + (rest_unfolds if last else arm_unfolds),
                 f'{name} c = ' + (rest if last else f'{arm} (c .match .keys{k}) refl'), '']
     out += [f'pub {result} : {{M : Type 1}} → statement M', f'{result} =', '    tie.close', '    (tie.spec'] + ['    ' + n for n in names]
-    write(f'proofs/rows/{function}/Proof.antt', '\n'.join(out) + ')\n')
+    write(f'proofs/chains/{function}/Proof.antt', '\n'.join(out) + ')\n')
 
 
 def row_proof(function, pairs, law):

@@ -1,14 +1,15 @@
 // The words and operators that a printer writes, in one table, and the form of a name and of a float's text.
 // A public call of a crate above makes the table once, `let t = words::table();`, and lends it down, `&t`: a constant array that is indexed
-// in place would be built anew at each use. What follows from the word list of specs/ is written by tools/words.py, in src/rows.rt.
+// in place would be built anew at each use. What follows from the word list of specs/ is written by tools/words.py, in rows.rt and chains.rt.
 ghost use mathlib.Core.Path.{_≡_};
-ghost use Prim.Native.Nat.{_<_, _≤_, _+_};
+ghost use Prim.Native.Nat.{_<_, _≤_};
 ghost use lib.ListN.{length, drop};
 ghost use Rattle.words.specs.Table as Table;
 ghost use Rattle.words.specs.Length.{mayBeWord};
 ghost use Rattle.words.specs.Bucket.{bucket};
 ghost use Rattle.words.specs.Form as Form;
 
+mod chains;
 pub mod rows;
 
 use rows::ROWS;
@@ -107,15 +108,15 @@ fn same(a: &[u8], b: &[u8]) -> bool
 
 // Whether a fixed word begins as s does and is as long. This alone tells most names from all fixed words.
 fn may_be_word(s: &[u8]) -> bool
-    requires { ⌜ (0 < length (now s)) × (length (now s) ≤ 23) ⌝ }
+    requires { ⌜ (0 < length (now s)) × (length (now s) ≤ Table.widest) ⌝ }
     ensures { λ r. ⌜ r ≡ mayBeWord (now (s .entry)) ⌝ }
 {
     let n = s.len() as u32;
-    (rows::lengths(s[0]) >> n) % 2 == 1
+    (chains::lengths(s[0]) >> n) % 2 == 1
 }
 
 fn bucket_of(s: &[u8]) -> usize
-    requires { ⌜ (0 < length (now s)) × (length (now s) ≤ 23) ⌝ }
+    requires { ⌜ (0 < length (now s)) × (length (now s) ≤ Table.widest) ⌝ }
     ensures { λ r. ⌜ r ≡ bucket (now (s .entry)) ⌝ }
 {
     let n = s.len();
@@ -136,12 +137,12 @@ pub fn is_fixed_word(table: &Words, s: &[u8]) -> bool
     if !may_be_word(s) {
         return false;
     }
-    let mut k = rows::first_in(bucket_of(s));
+    let mut k = chains::first_in(bucket_of(s));
     while k < UNARY {
         if same(row(table, k), s) {
             return true;
         }
-        k = rows::next_in(k);
+        k = chains::next_in(k);
     }
     false
 }

@@ -1,12 +1,12 @@
--- `words::rows::lengths` meets its contract: each arm by computation, all other numbers by one law. Written by tools/words.py. Assumes nothing.
+-- `words::chains::lengths` meets its contract: each arm by computation, all other numbers by one law. Written by tools/words.py. Assumes nothing.
 use mathlib.Core.Path.{refl}
 use Rattle.words.specs.Word.{wordText, qualifierWords, jumpWords, boolWords, loneWords, otherWords}
 use Rattle.words.specs.Table.{typeKeywords, fixedWords}
 use Rattle.words.specs.Length.{lengthsIn, lengthsOf}
 use Rattle.words.proofs.Listed.{lengthKeys}
 use Rattle.words.proofs.Lengths.{length-arm, length-rest}
-use Rattle.words.proofs.rows.lengths.Statement.{statement}
-use Rattle.words.proofs.rows.lengths.Tie as tie
+use Rattle.words.proofs.chains.lengths.Statement.{statement}
+use Rattle.words.proofs.chains.lengths.Tie as tie
 
 returns : tie.Need-returns
 unfolding lengthsOf lengthsIn fixedWords typeKeywords otherWords qualifierWords jumpWords boolWords loneWords wordText

@@ -1,10 +1,10 @@
--- `words::rows::first_in` meets its contract: each arm by computation, all other numbers by one law. Written by tools/words.py. Assumes nothing.
+-- `words::chains::first_in` meets its contract: each arm by computation, all other numbers by one law. Written by tools/words.py. Assumes nothing.
 use mathlib.Core.Path.{refl}
 use Rattle.words.specs.Bucket.{before}
 use Rattle.words.proofs.Listed.{listed, firstKeys}
 use Rattle.words.proofs.Buckets.{firstOf, first-arm, first-rest}
-use Rattle.words.proofs.rows.first_in.Statement.{statement}
-use Rattle.words.proofs.rows.first_in.Tie as tie
+use Rattle.words.proofs.chains.first_in.Statement.{statement}
+use Rattle.words.proofs.chains.first_in.Tie as tie
 
 returns : tie.Need-returns
 unfolding firstOf before listed

@@ -1,10 +1,10 @@
--- `words::rows::next_in` meets its contract: each arm by computation, all other numbers by one law. Written by tools/words.py. Assumes nothing.
+-- `words::chains::next_in` meets its contract: each arm by computation, all other numbers by one law. Written by tools/words.py. Assumes nothing.
 use mathlib.Core.Path.{refl}
 use Rattle.words.specs.Bucket.{before}
 use Rattle.words.proofs.Listed.{listed, nextKeys}
 use Rattle.words.proofs.Buckets.{nextOf, next-arm, next-rest}
-use Rattle.words.proofs.rows.next_in.Statement.{statement}
-use Rattle.words.proofs.rows.next_in.Tie as tie
+use Rattle.words.proofs.chains.next_in.Statement.{statement}
+use Rattle.words.proofs.chains.next_in.Tie as tie
 
 returns : tie.Need-returns
 unfolding nextOf before listed
