@@ -3,3 +3,5 @@ pub mod Word
 pub mod Symbol
 pub mod Table
 pub mod Form
+pub mod Length
+pub mod Bucket

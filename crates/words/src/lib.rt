@@ -1,1 +1,243 @@
-// stub
+// The words and operators that a printer writes, in one table, and the form of a name and of a float's text.
+// A public call of a crate above makes the table once, `let t = words::table();`, and lends it down, `&t`: a constant array that is indexed
+// in place would be built anew at each use. What follows from the word list of specs/ is written by tools/words.py, in rows.rt and chains.rt.
+ghost use mathlib.Core.Path.{_≡_};
+ghost use Prim.Native.Nat.{_<_, _≤_};
+ghost use lib.ListN.{length, drop};
+ghost use Rattle.words.specs.Table as Table;
+ghost use Rattle.words.specs.Length.{mayBeWord};
+ghost use Rattle.words.specs.Bucket.{bucket};
+ghost use Rattle.words.specs.Form as Form;
+
+mod chains;
+pub mod rows;
+
+use rows::ROWS;
+use rows::TABLE;
+use rows::UNARY;
+use rows::Words;
+
+const WIDTH: usize = 24;
+
+const WIDEST: usize = 23;
+
+const LONGEST_NAME: usize = 255;
+
+const LONGEST_FLOAT: usize = 400;
+
+// The table, made once and lent from then on.
+pub fn table() -> Words
+    ensures { λ r. ⌜ r ≡ Table.table ⌝ }
+{
+    TABLE
+}
+
+// A byte as a number to count with.
+fn wide(x: u8) -> usize
+    ensures { λ r. ⌜ (r ≡ x) × (r < 256) ⌝ }
+{
+    x as usize
+}
+
+// The text of row k, as a part of the lent table; nothing behind the last row.
+pub fn row<'t>(table: &'t Words, k: usize) -> &'t [u8]
+    requires { ⌜ now table ≡ Table.table ⌝ }
+    ensures { λ r. ⌜ now r ≡ Table.textAt k ⌝ }
+{
+    let bytes: &[u8] = table;
+    if ROWS <= k {
+        return &bytes[..0];
+    }
+    let start = WIDTH * k;
+    let end = start + wide(bytes[start + WIDEST]);
+    &bytes[start..end]
+}
+
+fn is_between(low: u8, high: u8, x: u8) -> bool
+    ensures { λ r. ⌜ r ≡ Form.between low high x ⌝ }
+{
+    (low <= x) & (x <= high)
+}
+
+fn is_digit(x: u8) -> bool
+    ensures { λ r. ⌜ r ≡ Form.digit x ⌝ }
+{
+    is_between(b'0', b'9', x)
+}
+
+fn is_letter(x: u8) -> bool
+    ensures { λ r. ⌜ r ≡ Form.letter x ⌝ }
+{
+    is_between(b'a', b'z', x) | is_between(b'A', b'Z', x)
+}
+
+fn is_name_byte(x: u8) -> bool
+    ensures { λ r. ⌜ r ≡ Form.nameByte x ⌝ }
+{
+    is_letter(x) | is_digit(x) | (x == b'_')
+}
+
+// No early return: a name is short, and a branch on each byte costs more than it saves.
+fn all_name_bytes(s: &[u8]) -> bool
+    ensures { λ r. ⌜ r ≡ Form.all Form.nameByte (now (s .entry)) ⌝ }
+{
+    let mut ok = true;
+    let mut i = 0;
+    while i < s.len() {
+        ok = ok & is_name_byte(s[i]);
+        i += 1;
+    }
+    ok
+}
+
+fn same(a: &[u8], b: &[u8]) -> bool
+    ensures { λ r. ⌜ r ≡ Form.same (now (a .entry)) (now (b .entry)) ⌝ }
+{
+    if a.len() != b.len() {
+        return false;
+    }
+    let mut i = 0;
+    while i < a.len() {
+        if a[i] != b[i] {
+            return false;
+        }
+        i += 1;
+    }
+    true
+}
+
+// Whether a fixed word begins as s does and is as long. This alone tells most names from all fixed words.
+fn may_be_word(s: &[u8]) -> bool
+    requires { ⌜ (0 < length (now s)) × (length (now s) ≤ Table.widest) ⌝ }
+    ensures { λ r. ⌜ r ≡ mayBeWord (now (s .entry)) ⌝ }
+{
+    let n = s.len() as u32;
+    (chains::lengths(s[0]) >> n) % 2 == 1
+}
+
+fn bucket_of(s: &[u8]) -> usize
+    requires { ⌜ (0 < length (now s)) × (length (now s) ≤ Table.widest) ⌝ }
+    ensures { λ r. ⌜ r ≡ bucket (now (s .entry)) ⌝ }
+{
+    let n = s.len();
+    (5 * wide(s[0]) + 7 * wide(s[n - 1]) + 3 * n) % 128
+}
+
+// Whether s is a fixed word. Only the words of its own bucket are compared.
+pub fn is_fixed_word(table: &Words, s: &[u8]) -> bool
+    requires { ⌜ now table ≡ Table.table ⌝ }
+    ensures { λ r. ⌜ r ≡ Form.oneOf Table.fixedWords (now (s .entry)) ⌝ }
+{
+    if s.len() == 0 {
+        return false;
+    }
+    if WIDEST < s.len() {
+        return false;
+    }
+    if !may_be_word(s) {
+        return false;
+    }
+    let mut k = chains::first_in(bucket_of(s));
+    while k < UNARY {
+        if same(row(table, k), s) {
+            return true;
+        }
+        k = chains::next_in(k);
+    }
+    false
+}
+
+// Whether s has the form of a name, with the table lent.
+pub fn name_form(table: &Words, s: &[u8]) -> bool
+    requires { ⌜ now table ≡ Table.table ⌝ }
+    ensures { λ r. ⌜ r ≡ Form.nameForm (now (s .entry)) ⌝ }
+{
+    if s.len() == 0 {
+        return false;
+    }
+    if LONGEST_NAME < s.len() {
+        return false;
+    }
+    if is_digit(s[0]) {
+        return false;
+    }
+    if !all_name_bytes(s) {
+        return false;
+    }
+    !is_fixed_word(table, s)
+}
+
+// Whether s has the form of a name.
+pub fn is_name(s: &[u8]) -> bool
+    ensures { λ r. ⌜ r ≡ Form.nameForm (now (s .entry)) ⌝ }
+{
+    let t = table();
+    name_form(&t, s)
+}
+
+// How many digits stand in s from `start` on, up to the first byte that is none.
+fn digits_from(s: &[u8], start: usize) -> usize
+    requires { ⌜ start ≤ length (now s) ⌝ }
+    ensures { λ r. ⌜ r ≡ length (Form.digits (drop start (now (s .entry)))) ⌝ }
+{
+    let mut i = start;
+    while i < s.len() {
+        if !is_digit(s[i]) {
+            return i - start;
+        }
+        i += 1;
+    }
+    i - start
+}
+
+// Whether the n digits at the front of s are a whole part: one or more, and no 0 before others.
+fn is_whole_part(s: &[u8], n: usize) -> bool
+    requires { ⌜ n ≡ length (Form.digits (now s)) ⌝ }
+    ensures { λ r. ⌜ r ≡ Form.wholePart (Form.digits (now (s .entry))) ⌝ }
+{
+    if n == 0 {
+        return false;
+    }
+    if n == 1 {
+        return true;
+    }
+    s[0] != b'0'
+}
+
+// Whether s from `start` on is a fraction: one digit or more, the last not 0.
+fn is_fraction(s: &[u8], start: usize) -> bool
+    requires { ⌜ start ≤ length (now s) ⌝ }
+    ensures { λ r. ⌜ r ≡ Form.fraction (drop start (now (s .entry))) ⌝ }
+{
+    let n = s.len();
+    if n == start {
+        return false;
+    }
+    if digits_from(s, start) < n - start {
+        return false;
+    }
+    s[n - 1] != b'0'
+}
+
+// Whether s has the form of a float's text.
+pub fn float_form(s: &[u8]) -> bool
+    ensures { λ r. ⌜ r ≡ Form.floatForm (now (s .entry)) ⌝ }
+{
+    if s.len() == 0 {
+        return false;
+    }
+    if LONGEST_FLOAT < s.len() {
+        return false;
+    }
+    let whole = digits_from(s, 0);
+    if !is_whole_part(s, whole) {
+        return false;
+    }
+    if whole == s.len() {
+        return true;
+    }
+    if s[whole] != b'.' {
+        return false;
+    }
+    is_fraction(s, whole + 1)
+}

@@ -1,0 +1,14 @@
+-- `words::table` meets its contract: the constant's bytes are those of the definition, by computation. Assumes nothing.
+use mathlib.Core.Path.{refl}
+use Rattle.words.specs.Word.{wordText, qualifierWords, jumpWords, boolWords, loneWords, otherWords}
+use Rattle.words.specs.Symbol.{symbolText, unaryOperators, binaryOperators, assignmentOperators}
+use Rattle.words.specs.Table.{typeKeywords, fixedWords, operators, texts, table}
+use Rattle.words.proofs.table.Statement.{statement}
+use Rattle.words.proofs.table.Tie as tie
+
+returns : tie.Need-returns
+unfolding table texts fixedWords typeKeywords otherWords qualifierWords jumpWords boolWords loneWords wordText operators symbolText unaryOperators binaryOperators assignmentOperators
+returns c = refl
+
+pub table-spec : {M : Type 1} → statement M
+table-spec = tie.close (tie.spec returns)
