@@ -47,7 +47,10 @@ fn found(folder: &Path, file: &str) -> Result<PathBuf, String> {
     let path = folder.join(file);
     println!("cargo::rerun-if-changed={}", path.display());
     path.canonicalize().map_err(|_| {
-        format!("the Rust module is absent: no file {} (set {VARIABLE} to the folder that holds {file})", path.display())
+        format!(
+            "the Rust module is absent: no file {} (set {VARIABLE} to the folder that holds {file})",
+            path.display()
+        )
     })
 }
 
