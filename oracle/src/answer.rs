@@ -51,30 +51,17 @@ pub struct Answer {
 
 /// Answers a question.
 pub fn answer(question: &Question) -> Answer {
-    let Question {
-        root,
-        settings,
-        records,
-        names,
-    } = question;
+    let Question { root, settings, records, names } = question;
     let settings = settings::read(settings);
     match root {
         Root::Unit => {
             let unit = read::unit(records, names);
-            Answer {
-                text: printed(settings, unit, print::unit),
-                joined: None,
-            }
+            Answer { text: printed(settings, unit, print::unit), joined: None }
         }
         Root::Expr => {
             let expr = read::expr(records, names);
-            let joined = expr
-                .clone()
-                .map_or_else(Outcome::Refused, |whole| given(&whole, is_joined));
-            Answer {
-                text: printed(settings, expr, print::expr),
-                joined: Some(joined),
-            }
+            let joined = expr.clone().map_or_else(Outcome::Refused, |whole| given(&whole, is_joined));
+            Answer { text: printed(settings, expr, print::expr), joined: Some(joined) }
         }
     }
 }

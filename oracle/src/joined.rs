@@ -67,10 +67,7 @@ fn in_type(ty: &ast::TypeSpecifier) -> bool {
 fn in_field(field: &ast::StructFieldSpecifier) -> bool {
     field.qualifier.iter().flat_map(|q| &q.qualifiers).any(in_qualifier)
         || in_type(&field.ty)
-        || field
-            .identifiers
-            .iter()
-            .any(|identifier| in_array(&identifier.array_spec))
+        || field.identifiers.iter().any(|identifier| in_array(&identifier.array_spec))
 }
 
 fn in_qualifier(spec: &ast::TypeQualifierSpec) -> bool {
@@ -91,11 +88,8 @@ fn in_qualifier(spec: &ast::TypeQualifierSpec) -> bool {
 }
 
 fn in_array(array: &Option<ast::ArraySpecifier>) -> bool {
-    array
-        .iter()
-        .flat_map(|a| &a.dimensions)
-        .any(|dimension| match &**dimension {
-            ArraySpecifierDimensionData::Unsized => false,
-            ArraySpecifierDimensionData::ExplicitlySized(e) => is_joined(e),
-        })
+    array.iter().flat_map(|a| &a.dimensions).any(|dimension| match &**dimension {
+        ArraySpecifierDimensionData::Unsized => false,
+        ArraySpecifierDimensionData::ExplicitlySized(e) => is_joined(e),
+    })
 }

@@ -42,27 +42,15 @@ pub struct Claim<'l> {
 /// Reads a line of four fields.
 pub fn question(line: &str) -> Result<Question, Fault> {
     let [root, settings, records, names] = fields(line)?;
-    Ok(Question {
-        root: read_root(root)?,
-        settings: bytes(settings)?,
-        records: bytes(records)?,
-        names: bytes(names)?,
-    })
+    Ok(Question { root: read_root(root)?, settings: bytes(settings)?, records: bytes(records)?, names: bytes(names)? })
 }
 
 /// Reads a line of six fields.
 pub fn claim(line: &str) -> Result<Claim<'_>, Fault> {
     let [root, settings, records, names, text, joined] = fields(line)?;
-    let question = Question {
-        root: read_root(root)?,
-        settings: bytes(settings)?,
-        records: bytes(records)?,
-        names: bytes(names)?,
-    };
-    Ok(Claim {
-        question,
-        answer: [text, joined],
-    })
+    let question =
+        Question { root: read_root(root)?, settings: bytes(settings)?, records: bytes(records)?, names: bytes(names)? };
+    Ok(Claim { question, answer: [text, joined] })
 }
 
 /// Writes the six fields of a question and its answers.
@@ -114,13 +102,8 @@ fn bytes(word: &str) -> Result<Vec<u8>, Fault> {
         return Ok(Vec::new());
     }
     let (pairs, rest) = word.as_bytes().as_chunks();
-    let bytes = pairs
-        .iter()
-        .map(|&[high, low]| Some(digit(high)? << 4 | digit(low)?))
-        .collect::<Option<Vec<u8>>>();
-    bytes
-        .filter(|_| rest.is_empty())
-        .ok_or_else(|| Fault::Hex(word.to_owned()))
+    let bytes = pairs.iter().map(|&[high, low]| Some(digit(high)? << 4 | digit(low)?)).collect::<Option<Vec<u8>>>();
+    bytes.filter(|_| rest.is_empty()).ok_or_else(|| Fault::Hex(word.to_owned()))
 }
 
 fn digit(byte: u8) -> Option<u8> {
@@ -132,13 +115,11 @@ pub fn hex(bytes: &[u8]) -> String {
     if bytes.is_empty() {
         return "-".to_owned();
     }
-    bytes
-        .iter()
-        .fold(String::with_capacity(2 * bytes.len()), |mut text, byte| {
-            // Writing to a String cannot fail.
-            let _ = write!(text, "{byte:02x}");
-            text
-        })
+    bytes.iter().fold(String::with_capacity(2 * bytes.len()), |mut text, byte| {
+        // Writing to a String cannot fail.
+        let _ = write!(text, "{byte:02x}");
+        text
+    })
 }
 
 #[cfg(test)]
@@ -174,27 +155,15 @@ mod tests {
     fn answers_are_written_behind_the_question() {
         let tight = "00".repeat(21);
         let name = "010000000000000001000000";
-        assert_eq!(
-            said(&format!("Expr {tight} {name} 78")),
-            format!("Expr {tight} {name} 78 78 0")
-        );
+        assert_eq!(said(&format!("Expr {tight} {name} 78")), format!("Expr {tight} {name} 78 78 0"));
         let unit = "500000000000000000000000";
-        assert_eq!(
-            said(&format!("Unit {tight} {unit} -")),
-            format!("Unit {tight} {unit} - - 2")
-        );
+        assert_eq!(said(&format!("Unit {tight} {unit} -")), format!("Unit {tight} {unit} - - 2"));
         // Settings refused: the joined question takes none.
         assert_eq!(said(&format!("Expr - {name} 78")), format!("Expr - {name} 78 !1@0 0"));
-        assert_eq!(
-            said(&format!("Expr {tight} {name} -")),
-            format!("Expr {tight} {name} - !10@0 !10@0")
-        );
+        assert_eq!(said(&format!("Expr {tight} {name} -")), format!("Expr {tight} {name} - !10@0 !10@0"));
         // "0.10000000001" is no f32 that Display gives back.
         let float = "05000000000000000d000000";
         let text = hex(b"0.10000000001");
-        assert_eq!(
-            said(&format!("Expr {tight} {float} {text}")),
-            format!("Expr {tight} {float} {text} ? ?")
-        );
+        assert_eq!(said(&format!("Expr {tight} {float} {text}")), format!("Expr {tight} {float} {text} ? ?"));
     }
 }

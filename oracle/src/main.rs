@@ -39,9 +39,7 @@ fn main() -> ExitCode {
 fn answer_lines(input: impl BufRead) -> Verdict {
     let mut output = BufWriter::new(io::stdout().lock());
     for (number, line) in (1..).zip(input.lines()) {
-        let question = line
-            .map_err(message)
-            .and_then(|line| line::question(&line).map_err(message));
+        let question = line.map_err(message).and_then(|line| line::question(&line).map_err(message));
         let question = question.map_err(|message| format!("line {number}: {message}"))?;
         writeln!(output, "{}", line::answered(&question, &answer::answer(&question))).map_err(message)?;
     }
@@ -68,16 +66,9 @@ fn check_file(file: &str) -> Verdict {
 /// Whether a claim is the oracle's answer; prints both where it is not.
 fn agrees(number: usize, claim: &line::Claim<'_>) -> bool {
     let oracle = line::answer_fields(&answer::answer(&claim.question));
-    let same = oracle
-        .iter()
-        .zip(claim.answer)
-        .all(|(oracle, claimed)| oracle.eq_ignore_ascii_case(claimed));
+    let same = oracle.iter().zip(claim.answer).all(|(oracle, claimed)| oracle.eq_ignore_ascii_case(claimed));
     if !same {
-        println!(
-            "line {number} differs\n  file:   {}\n  oracle: {}",
-            claim.answer.join(" "),
-            oracle.join(" ")
-        );
+        println!("line {number} differs\n  file:   {}\n  oracle: {}", claim.answer.join(" "), oracle.join(" "));
     }
     same
 }

@@ -69,11 +69,7 @@ impl Random {
         let favourite = self.between(0, last);
         let lopsided = self.chance(50);
         for _ in asked..whole {
-            let at = if lopsided && self.chance(80) {
-                favourite
-            } else {
-                self.between(0, last)
-            };
+            let at = if lopsided && self.chance(80) { favourite } else { self.between(0, last) };
             shares[at] += 1;
         }
         shares
@@ -95,13 +91,9 @@ mod tests {
     #[test]
     fn shares_have_the_sum() {
         let mut random = Random::new(1, 1);
-        for (whole, least, sum) in [
-            (0, vec![], 0),
-            (9, vec![], 0),
-            (9, vec![1], 9),
-            (9, vec![1, 3], 9),
-            (2, vec![2, 1], 3),
-        ] {
+        for (whole, least, sum) in
+            [(0, vec![], 0), (9, vec![], 0), (9, vec![1], 9), (9, vec![1, 3], 9), (2, vec![2, 1], 3)]
+        {
             let shares = random.share(whole, &least);
             assert_eq!((shares.len(), shares.iter().sum::<usize>()), (least.len(), sum));
             assert!(shares.iter().zip(&least).all(|(share, least)| share >= least));

@@ -115,13 +115,7 @@ mod tests {
     #[test]
     fn fields_are_little_endian() {
         let bytes = [1, 2, 3, 0, 4, 0, 0, 0, 0, 0, 0, 5];
-        let record = Record {
-            kind: 1,
-            variant: 2,
-            count: 3,
-            a: 4,
-            b: 5 << 24,
-        };
+        let record = Record { kind: 1, variant: 2, count: 3, a: 4, b: 5 << 24 };
         assert_eq!(Record::from_bytes(&bytes), record);
         assert_eq!(record.to_bytes(), bytes);
     }

@@ -86,10 +86,7 @@ mod tests {
     #[test]
     fn tight_is_minifying_but_for_collapse() {
         let minifying = FormattingSettings::minifying();
-        let collapsing = FormattingSettings {
-            collapse_single_item_compound_statements: true,
-            ..tight()
-        };
+        let collapsing = FormattingSettings { collapse_single_item_compound_statements: true, ..tight() };
         assert_eq!(minifying, collapsing);
     }
 

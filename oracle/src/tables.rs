@@ -75,18 +75,12 @@ pub static STORAGE: [StorageQualifierData; 17] = [
 ];
 
 /// Kind 29, variants 19..21.
-pub static PRECISION: [PrecisionQualifierData; 3] = [
-    PrecisionQualifierData::High,
-    PrecisionQualifierData::Medium,
-    PrecisionQualifierData::Low,
-];
+pub static PRECISION: [PrecisionQualifierData; 3] =
+    [PrecisionQualifierData::High, PrecisionQualifierData::Medium, PrecisionQualifierData::Low];
 
 /// Kind 29, variants 22..24.
-pub static INTERPOLATION: [InterpolationQualifierData; 3] = [
-    InterpolationQualifierData::Smooth,
-    InterpolationQualifierData::Flat,
-    InterpolationQualifierData::NoPerspective,
-];
+pub static INTERPOLATION: [InterpolationQualifierData; 3] =
+    [InterpolationQualifierData::Smooth, InterpolationQualifierData::Flat, InterpolationQualifierData::NoPerspective];
 
 /// Kind 21: the type keywords.
 pub static TYPE_KEYWORDS: [TypeSpecifierNonArrayData; 51] = [

@@ -30,10 +30,7 @@ pub const LONGEST_FLOAT: usize = 400;
 
 /// Whether the printer can write this word without being given it as a name.
 pub fn is_fixed_word(text: &[u8]) -> bool {
-    TYPE_KEYWORDS
-        .iter()
-        .chain(&OTHER_WORDS)
-        .any(|word| word.as_bytes() == text)
+    TYPE_KEYWORDS.iter().chain(&OTHER_WORDS).any(|word| word.as_bytes() == text)
 }
 
 /// A name has 1 to 255 ASCII letters, digits and underscores, no digit first, and isn't a fixed word.
@@ -75,31 +72,10 @@ mod tests {
 
     #[test]
     fn names() {
-        for name in [
-            "a",
-            "_",
-            "lf",
-            "u",
-            "Int",
-            "ints",
-            "gl_Position",
-            "sampler1D",
-            "a9",
-            &"x".repeat(255),
-        ] {
+        for name in ["a", "_", "lf", "u", "Int", "ints", "gl_Position", "sampler1D", "a9", &"x".repeat(255)] {
             assert!(is_name(name.as_bytes()), "{name}");
         }
-        for other in [
-            "",
-            "9a",
-            "a-b",
-            "é",
-            "int",
-            "true",
-            "precision",
-            "atomic_uint",
-            &"x".repeat(256),
-        ] {
+        for other in ["", "9a", "a-b", "é", "int", "true", "precision", "atomic_uint", &"x".repeat(256)] {
             assert!(!is_name(other.as_bytes()), "{other}");
         }
     }
@@ -109,21 +85,7 @@ mod tests {
         for float in ["0", "1", "10", "0.5", "10.01", &"1".repeat(400)] {
             assert!(is_float(float.as_bytes()), "{float}");
         }
-        for other in [
-            "",
-            ".",
-            "1.",
-            ".5",
-            "01",
-            "00",
-            "1.0",
-            "1.50",
-            "-1",
-            "1e5",
-            "1.2.3",
-            "inf",
-            &"1".repeat(401),
-        ] {
+        for other in ["", ".", "1.", ".5", "01", "00", "1.0", "1.50", "-1", "1e5", "1.2.3", "inf", &"1".repeat(401)] {
             assert!(!is_float(other.as_bytes()), "{other}");
         }
     }

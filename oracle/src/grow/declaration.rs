@@ -11,11 +11,12 @@ pub(super) fn bit(variant: u8, bit: u8) -> usize {
 impl Grower {
     /// A declaration or, in room for it, a function.
     pub(super) fn external_declaration(&mut self, room: usize) {
-        if room >= 6 && self.random.chance(50) {
+        if room >= 6 && self.random.chance(70) {
+            // Most of the room is the body's: only there do statements grow.
+            let prototype = self.random.between(4, room.min(14) - 2);
             self.put(81, 0, 0);
-            let shares = self.random.share(room - 1, &[4, 1]);
-            self.prototype(shares[0]);
-            self.compound(shares[1]);
+            self.prototype(prototype);
+            self.compound(room - 1 - prototype);
         } else {
             self.declaration(room);
         }
@@ -59,23 +60,14 @@ impl Grower {
         let parameters = self.children(0, 3, room.saturating_sub(4), 3);
         self.put_named(40, 0, parameters);
         let shares = self.random.share(room - 1, &[3, 3 * parameters]);
-        let (ty, rest) = if parameters > 0 {
-            (shares[0], shares[1])
-        } else {
-            (room - 1, 0)
-        };
+        let (ty, rest) = if parameters > 0 { (shares[0], shares[1]) } else { (room - 1, 0) };
         self.full_type(ty);
         self.grow_each(rest, parameters, 3, Self::parameter);
     }
 
-    /// A parameter: kind 41, at least 3 records.
+    /// A parameter: kind 41, at least 3 records. Every variant comes up, even where it needs more room.
     fn parameter(&mut self, room: usize) {
-        let wanted = self.random.byte(3);
-        let variant = if room < 3 + bit(wanted, 1) + 2 * bit(wanted, 2) {
-            0
-        } else {
-            wanted
-        };
+        let variant = self.random.byte(3);
         self.put(41, variant, 0);
         let (named, qualified) = (bit(variant, 1), bit(variant, 2));
         let shares = self.random.share(room - 1, &vec![2; 1 + qualified]);
@@ -102,14 +94,9 @@ impl Grower {
         }
     }
 
-    /// The first declarator: kind 43, at least 4 records.
+    /// The first declarator: kind 43, at least 4 records. Every variant comes up, even where it needs more room.
     fn first_declarator(&mut self, room: usize) {
-        let wanted = self.random.byte(7);
-        let variant = if room < 4 + 2 * (bit(wanted, 2) + bit(wanted, 4)) {
-            wanted & 1
-        } else {
-            wanted
-        };
+        let variant = self.random.byte(7);
         let (arrayed, initialized) = (bit(variant, 2), bit(variant, 4));
         if variant & 1 == 0 {
             self.put(43, variant, 0);

@@ -88,17 +88,10 @@ impl Grower {
 
     /// A variable or a constant.
     fn atom(&mut self) {
-        match self
-            .random
-            .weighted(&[(50, 1), (18, 2), (10, 3), (6, 4), (8, 5), (8, 6)])
-        {
+        match self.random.weighted(&[(50, 1), (18, 2), (10, 3), (6, 4), (8, 5), (8, 6)]) {
             Some(kind @ (2 | 3)) => {
                 let a = self.integer();
-                self.write(Record {
-                    kind,
-                    a,
-                    ..Record::default()
-                });
+                self.write(Record { kind, a, ..Record::default() });
             }
             Some(4) => {
                 let value = self.random.byte(1);
@@ -106,12 +99,7 @@ impl Grower {
             }
             Some(kind @ (5 | 6)) => {
                 let (a, b) = self.float(kind);
-                self.write(Record {
-                    kind,
-                    a,
-                    b,
-                    ..Record::default()
-                });
+                self.write(Record { kind, a, b, ..Record::default() });
             }
             _ => self.put_named(1, 0, 0),
         }
@@ -119,16 +107,8 @@ impl Grower {
 
     /// 32 bits: of every length, and the ends of both ranges.
     fn integer(&mut self) -> u32 {
-        const ENDS: [u32; 8] = [
-            0,
-            1,
-            9,
-            10,
-            i32::MAX.cast_unsigned(),
-            i32::MIN.cast_unsigned(),
-            u32::MAX - 1,
-            u32::MAX,
-        ];
+        const ENDS: [u32; 8] =
+            [0, 1, 9, 10, i32::MAX.cast_unsigned(), i32::MIN.cast_unsigned(), u32::MAX - 1, u32::MAX];
         if self.random.chance(40) {
             ENDS[self.random.between(0, ENDS.len() - 1)]
         } else {

@@ -15,9 +15,9 @@ impl Grower {
             (from(3, 20), 62),
             (from(2, 10), 63),
             (below(8, 6) + 1, 64),
-            (from(4, 10), 65),
+            (from(4, 16), 65),
             (from(3, 10), 66),
-            (from(3, 14), 67),
+            (from(3, 24), 67),
             (below(8, 14) + 2, 68),
         ]);
         match kind {
@@ -85,11 +85,7 @@ impl Grower {
 
     fn for_loop(&mut self, room: usize) {
         let wanted = self.random.byte(3);
-        let variant = if room < 3 + 2 * bit(wanted, 1) + bit(wanted, 2) {
-            0
-        } else {
-            wanted
-        };
+        let variant = if room < 3 + 2 * bit(wanted, 1) + bit(wanted, 2) { 0 } else { wanted };
         let (checked, stepped) = (bit(variant, 1), bit(variant, 2));
         self.put(67, variant, 0);
         let mut least = vec![1];

@@ -48,9 +48,7 @@ impl Grower {
     /// Offset and length of a name: one that was there before, a part of one, or a new one.
     pub(super) fn name(&mut self) -> (u32, u32) {
         let known = self.known_name().filter(|_| self.random.chance(40));
-        let part = known
-            .filter(|_| self.random.chance(25))
-            .and_then(|name| self.part_of(name));
+        let part = known.filter(|_| self.random.chance(25)).and_then(|name| self.part_of(name));
         part.or(known).unwrap_or_else(|| {
             let text = self.new_name();
             let place = self.put_text(&text);
@@ -78,13 +76,7 @@ impl Grower {
         if self.random.chance(8) {
             return self.close_to_a_word();
         }
-        let lengths = [
-            (35, (1, 1)),
-            (45, (2, 8)),
-            (15, (9, 40)),
-            (4, (41, 254)),
-            (1, (LONGEST_NAME, LONGEST_NAME)),
-        ];
+        let lengths = [(35, (1, 1)), (45, (2, 8)), (15, (9, 40)), (4, (41, 254)), (1, (LONGEST_NAME, LONGEST_NAME))];
         let (least, most) = self.random.weighted(&lengths).unwrap_or((1, 1));
         let length = self.random.between(least, most);
         let mut text: Vec<u8> = (0..length).map(|_| self.letter(LATER)).collect();
@@ -116,11 +108,7 @@ impl Grower {
 
     /// Offset and length of the text of a single (kind 5) or double (kind 6) float.
     pub(super) fn float(&mut self, kind: u8) -> (u32, u32) {
-        let text = if kind == 5 {
-            self.float_text::<f32>()
-        } else {
-            self.float_text::<f64>()
-        };
+        let text = if kind == 5 { self.float_text::<f32>() } else { self.float_text::<f64>() };
         self.put_text(text.as_bytes())
     }
 
@@ -132,11 +120,7 @@ impl Grower {
             2 => T::of_quotient(self.random.bits32() % 1_000, 64),
             _ => T::of_bits(self.random.bits()),
         };
-        let value = if value.is_in_scope() {
-            value
-        } else {
-            T::of_quotient(1, 10)
-        };
+        let value = if value.is_in_scope() { value } else { T::of_quotient(1, 10) };
         value.to_string()
     }
 

@@ -62,11 +62,7 @@ impl Grower {
         self.put(26, u8::from(qualified), names);
         let shares = self.random.share(room - 1, &[qualifier, 2, names]);
         // A share of the qualifier's that nobody takes goes to the type.
-        let (qualifier, ty) = if qualified {
-            (shares[0], shares[1])
-        } else {
-            (0, shares[0] + shares[1])
-        };
+        let (qualifier, ty) = if qualified { (shares[0], shares[1]) } else { (0, shares[0] + shares[1]) };
         self.optional(qualified, qualifier, Self::qualifier);
         self.type_specifier(ty);
         self.grow_each(shares[2], names, 1, Self::arrayed_identifier);

@@ -46,12 +46,7 @@ impl Reader<'_> {
         self.node(&Place::of(&[40..=40]), |reader, r| {
             let ty = reader.full_type()?;
             let parameters = reader.several(r.record.count, Self::parameter)?;
-            Ok(FunctionPrototypeData {
-                ty,
-                name: r.identifier(),
-                parameters,
-            }
-            .into())
+            Ok(FunctionPrototypeData { ty, name: r.identifier(), parameters }.into())
         })
     }
 
@@ -87,13 +82,7 @@ impl Reader<'_> {
             let array_specifier = reader.when(r.has(2), Self::array)?;
             let initializer = reader.when(r.has(4), Self::initializer)?;
             let name = r.has(1).then(|| r.identifier());
-            Ok(SingleDeclarationData {
-                ty,
-                name,
-                array_specifier,
-                initializer,
-            }
-            .into())
+            Ok(SingleDeclarationData { ty, name, array_specifier, initializer }.into())
         })
     }
 
@@ -124,13 +113,7 @@ impl Reader<'_> {
             let qualifier = reader.qualifier()?;
             let fields = reader.several(r.record.count, Self::field)?;
             let identifier = reader.when(r.has(1), Self::arrayed_identifier)?;
-            Ok(BlockData {
-                qualifier,
-                name: r.identifier(),
-                fields,
-                identifier,
-            }
-            .into())
+            Ok(BlockData { qualifier, name: r.identifier(), fields, identifier }.into())
         })
     }
 }

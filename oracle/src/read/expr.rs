@@ -26,11 +26,7 @@ impl Reader<'_> {
         let expr = match r.kind() {
             1..=6 => self.atom(r)?,
             7 => ExprData::Unary(r.entry(&tables::UNARY, 0)?.into(), self.boxed_expr()?),
-            8 => ExprData::Binary(
-                r.entry(&tables::BINARY, 0)?.into(),
-                self.boxed_expr()?,
-                self.boxed_expr()?,
-            ),
+            8 => ExprData::Binary(r.entry(&tables::BINARY, 0)?.into(), self.boxed_expr()?, self.boxed_expr()?),
             9 => ExprData::Ternary(self.boxed_expr()?, self.boxed_expr()?, self.boxed_expr()?),
             10 => {
                 let op = r.entry(&tables::ASSIGNMENT, 0)?.into();

@@ -53,21 +53,12 @@ fn whole<'a, T>(records: &'a [u8], names: &'a [u8], read: fn(&mut Reader<'a>) ->
     if names.len() > MOST_NAMES {
         return Err(Refusal::whole(Reason::Names));
     }
-    let mut reader = Reader {
-        records,
-        names,
-        next: 0,
-        depth: 0,
-        unlike_display: None,
-    };
+    let mut reader = Reader { records, names, next: 0, depth: 0, unlike_display: None };
     let tree = read(&mut reader)?;
     if reader.next < records.len() {
         return Err(Refusal::at(Reason::LeftOver, reader.next));
     }
-    Ok(Whole {
-        tree,
-        unlike_display: reader.unlike_display,
-    })
+    Ok(Whole { tree, unlike_display: reader.unlike_display })
 }
 
 /// A place in the tree: the kinds and variants that are allowed there.
@@ -79,10 +70,7 @@ struct Place {
 impl Place {
     /// A place for these kinds in every variant.
     const fn of(kinds: &'static [RangeInclusive<u8>]) -> Self {
-        Self {
-            kinds,
-            variants: 0..=255,
-        }
+        Self { kinds, variants: 0..=255 }
     }
 }
 
@@ -117,9 +105,7 @@ impl Opened {
     /// An entry of a table by the variant, counted from `first`.
     fn entry<T: Clone>(&self, table: &[T], first: u8) -> Read<T> {
         let at = self.record.variant.checked_sub(first).map(usize::from);
-        at.and_then(|at| table.get(at))
-            .cloned()
-            .ok_or(self.refused(Reason::Variant))
+        at.and_then(|at| table.get(at)).cloned().ok_or(self.refused(Reason::Variant))
     }
 
     /// A refusal at this record. The shapes shut out every use behind a good opening; it keeps the decoder total.
@@ -183,9 +169,7 @@ impl Reader<'_> {
         if !unused_are_zero(&record, count, payload) {
             return refused(Reason::Unused);
         }
-        let text = self
-            .text(&record, payload)
-            .map_err(|reason| Refusal::at(reason, index))?;
+        let text = self.text(&record, payload).map_err(|reason| Refusal::at(reason, index))?;
         self.next += 1;
         Ok(Opened { index, record, text })
     }
@@ -209,9 +193,7 @@ impl Reader<'_> {
     /// The unit: n of 47 or 81.
     fn unit(&mut self) -> Read<ast::TranslationUnit> {
         self.node(&Place::of(&[80..=80]), |reader, r| {
-            reader
-                .several(r.record.count, Self::external_declaration)
-                .map(ast::TranslationUnit)
+            reader.several(r.record.count, Self::external_declaration).map(ast::TranslationUnit)
         })
     }
 }

@@ -59,24 +59,14 @@ impl Reader<'_> {
             Some(other) => SelectionRestStatementData::Else(then, other),
             None => SelectionRestStatementData::Statement(then),
         };
-        Ok(SelectionStatementData {
-            cond,
-            rest: rest.into(),
-        }
-        .into())
+        Ok(SelectionStatementData { cond, rest: rest.into() }.into())
     }
 
     /// The loop of a record 65..67 and its children.
     fn iteration_of(&mut self, r: &Opened) -> Read<IterationStatementData> {
         match r.kind() {
-            65 => Ok(IterationStatementData::While(
-                self.condition()?,
-                self.boxed_statement()?,
-            )),
-            66 => Ok(IterationStatementData::DoWhile(
-                self.boxed_statement()?,
-                self.boxed_expr()?,
-            )),
+            65 => Ok(IterationStatementData::While(self.condition()?, self.boxed_statement()?)),
+            66 => Ok(IterationStatementData::DoWhile(self.boxed_statement()?, self.boxed_expr()?)),
             67 => {
                 let start = self.for_start()?;
                 let condition = self.when(r.has(1), Self::condition)?;

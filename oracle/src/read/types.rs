@@ -73,11 +73,7 @@ impl Reader<'_> {
     pub(super) fn arrayed_identifier(&mut self) -> Read<ast::ArrayedIdentifier> {
         self.node(&Place::of(&[27..=27]), |reader, r| {
             let array_spec = reader.when(r.has(1), Self::array)?;
-            Ok(ArrayedIdentifierData {
-                ident: r.identifier(),
-                array_spec,
-            }
-            .into())
+            Ok(ArrayedIdentifierData { ident: r.identifier(), array_spec }.into())
         })
     }
 
@@ -114,13 +110,7 @@ impl Reader<'_> {
 
     /// The precision that a precision declaration takes: kind 29 of variant 19..21.
     pub(super) fn precision(&mut self) -> Read<ast::PrecisionQualifier> {
-        self.node(
-            &Place {
-                kinds: &[29..=29],
-                variants: 19..=21,
-            },
-            |_, r| Ok(r.entry(&tables::PRECISION, 19)?.into()),
-        )
+        self.node(&Place { kinds: &[29..=29], variants: 19..=21 }, |_, r| Ok(r.entry(&tables::PRECISION, 19)?.into()))
     }
 
     /// A layout id: kind 30.
@@ -140,11 +130,7 @@ impl Reader<'_> {
     pub(super) fn full_type(&mut self) -> Read<ast::FullySpecifiedType> {
         self.node(&Place::of(&[31..=31]), |reader, r| {
             let qualifier = reader.when(r.has(1), Self::qualifier)?;
-            Ok(FullySpecifiedTypeData {
-                qualifier,
-                ty: reader.type_specifier()?,
-            }
-            .into())
+            Ok(FullySpecifiedTypeData { qualifier, ty: reader.type_specifier()? }.into())
         })
     }
 }
