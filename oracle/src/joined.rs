@@ -93,3 +93,83 @@ fn in_array(array: &Option<ast::ArraySpecifier>) -> bool {
         ArraySpecifierDimensionData::ExplicitlySized(e) => is_joined(e),
     })
 }
+
+#[cfg(test)]
+mod tests {
+    use super::*;
+    use glsl_lang::ast::{
+        ArraySpecifierData, FunIdentifierData, StructFieldSpecifierData, StructSpecifierData, TypeSpecifierData,
+        UnaryOpData,
+    };
+
+    fn name() -> ast::Expr {
+        ExprData::variable("a").into()
+    }
+
+    fn unary(op: UnaryOpData, e: ast::Expr) -> ast::Expr {
+        ExprData::Unary(op.into(), Box::new(e)).into()
+    }
+
+    fn binary(op: BinaryOpData, left: ast::Expr, right: ast::Expr) -> ast::Expr {
+        ExprData::Binary(op.into(), Box::new(left), Box::new(right)).into()
+    }
+
+    fn call(callee: FunIdentifierData) -> ast::Expr {
+        ExprData::FunCall(callee.into(), Vec::new()).into()
+    }
+
+    fn negative() -> ast::Expr {
+        unary(UnaryOpData::Minus, name())
+    }
+
+    /// `a - -a`
+    fn joined() -> ast::Expr {
+        binary(BinaryOpData::Sub, name(), negative())
+    }
+
+    #[test]
+    fn same_sign_on_the_right_joins() {
+        assert!(is_joined(&joined()));
+        assert!(is_joined(&binary(BinaryOpData::Add, name(), unary(UnaryOpData::Inc, name()))));
+        assert!(is_joined(&binary(BinaryOpData::Sub, name(), ExprData::IntConst(-1).into())));
+        // The sign is that of the operand's first operand.
+        assert!(is_joined(&binary(BinaryOpData::Sub, name(), binary(BinaryOpData::Mult, negative(), name()))));
+        // A callee is bare at any strength.
+        assert!(is_joined(&binary(BinaryOpData::Sub, name(), call(FunIdentifierData::Expr(Box::new(negative()))))));
+    }
+
+    #[test]
+    fn others_do_not_join() {
+        assert!(!is_joined(&name()));
+        assert!(!is_joined(&binary(BinaryOpData::Add, name(), negative())));
+        assert!(!is_joined(&binary(BinaryOpData::Mult, name(), negative())));
+        assert!(!is_joined(&binary(BinaryOpData::Sub, negative(), name())));
+        // Of equal strength, so bracketed: `a-(-a-a)`.
+        assert!(!is_joined(&binary(BinaryOpData::Sub, name(), binary(BinaryOpData::Sub, negative(), name()))));
+    }
+
+    #[test]
+    fn every_part_is_looked_at() {
+        let boxed = || Box::new(joined());
+        let comma = ExprData::Comma(Box::new(name()), boxed());
+        let ternary = ExprData::Ternary(Box::new(name()), Box::new(name()), boxed());
+        let argument = ExprData::FunCall(FunIdentifierData::ident("f").into(), vec![name(), joined()]);
+        for expr in [comma, ternary, argument, ExprData::PostInc(boxed()), ExprData::Bracket(Box::new(name()), boxed())]
+        {
+            assert!(is_joined(&expr.into()));
+        }
+    }
+
+    #[test]
+    fn types_of_callees_are_looked_at() {
+        let sized = ArraySpecifierDimensionData::ExplicitlySized(Box::new(joined()));
+        let array_specifier = Some(ArraySpecifierData { dimensions: vec![sized.into()] }.into());
+        let ty = TypeSpecifierData { ty: TypeSpecifierNonArrayData::Int.into(), array_specifier };
+        assert!(is_joined(&call(FunIdentifierData::TypeSpecifier(Box::new(ty.clone().into())))));
+        let identifiers = vec![ast::ArrayedIdentifierData::from("a").into()];
+        let field = StructFieldSpecifierData { qualifier: None, ty: ty.into(), identifiers };
+        let whole = StructSpecifierData { name: None, fields: vec![field.into()] };
+        let outer = TypeSpecifierData::from(TypeSpecifierNonArrayData::Struct(whole.into()));
+        assert!(is_joined(&call(FunIdentifierData::TypeSpecifier(Box::new(outer.into())))));
+    }
+}

@@ -41,16 +41,13 @@ pub struct Claim<'l> {
 
 /// Reads a line of four fields.
 pub fn question(line: &str) -> Result<Question, Fault> {
-    let [root, settings, records, names] = fields(line)?;
-    Ok(Question { root: read_root(root)?, settings: bytes(settings)?, records: bytes(records)?, names: bytes(names)? })
+    fields(line).and_then(read_question)
 }
 
 /// Reads a line of six fields.
 pub fn claim(line: &str) -> Result<Claim<'_>, Fault> {
     let [root, settings, records, names, text, joined] = fields(line)?;
-    let question =
-        Question { root: read_root(root)?, settings: bytes(settings)?, records: bytes(records)?, names: bytes(names)? };
-    Ok(Claim { question, answer: [text, joined] })
+    Ok(Claim { question: read_question([root, settings, records, names])?, answer: [text, joined] })
 }
 
 /// Writes the six fields of a question and its answers.
@@ -86,6 +83,11 @@ fn outcome_field<T>(outcome: &Outcome<T>, given: impl FnOnce(&T) -> String) -> S
 fn fields<const N: usize>(line: &str) -> Result<[&str; N], Fault> {
     let fields: Vec<&str> = line.split_whitespace().collect();
     fields.try_into().map_err(|_| Fault::Fields(N))
+}
+
+/// Reads the fields of a question.
+fn read_question([root, settings, records, names]: [&str; 4]) -> Result<Question, Fault> {
+    Ok(Question { root: read_root(root)?, settings: bytes(settings)?, records: bytes(records)?, names: bytes(names)? })
 }
 
 fn read_root(word: &str) -> Result<Root, Fault> {
