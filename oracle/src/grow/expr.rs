@@ -6,23 +6,8 @@ use crate::record::Record;
 impl Grower {
     /// An expression that fills the room.
     pub(super) fn expr(&mut self, room: usize) {
-        let from = |least: usize, weight: u64| if room >= least { weight } else { 0 };
-        let below = |least: usize, weight: u64| if room < least { weight } else { 0 };
-        let kind = self.random.weighted(&[
-            (below(2, 10), 1),
-            (from(2, 25), 7),
-            (from(3, 45), 8),
-            (from(4, 15), 9),
-            (from(3, 15), 10),
-            (from(3, 12), 11),
-            (from(2, 18), 12),
-            (from(2, 10), 13),
-            (from(2, 8), 14),
-            (from(2, 8), 15),
-            (from(3, 12), 16),
-        ]);
         let left = room.saturating_sub(1);
-        match kind {
+        match self.expr_kind(room) {
             Some(7) => {
                 let op = self.unary_op();
                 self.operator(7, op, left, 1);
@@ -31,7 +16,6 @@ impl Grower {
                 let op = self.binary_op();
                 self.operator(8, op, left, 2);
             }
-            Some(9) => self.operator(9, 0, left, 3),
             Some(10) => {
                 let op = self.random.byte(10);
                 self.operator(10, op, left, 2);
@@ -43,8 +27,26 @@ impl Grower {
             }
             Some(kind @ (14 | 15)) => self.operator(kind, 0, left, 1),
             Some(kind @ (11 | 16)) => self.operator(kind, 0, left, 2),
+            Some(9) => self.operator(9, 0, left, 3),
             _ => self.atom(),
         }
+    }
+
+    /// A kind that has children enough for the room; nothing where there is room for an atom alone.
+    fn expr_kind(&mut self, room: usize) -> Option<u8> {
+        let from = |least: usize, weight: u64| if room >= least { weight } else { 0 };
+        self.random.weighted(&[
+            (from(2, 25), 7),
+            (from(3, 45), 8),
+            (from(4, 15), 9),
+            (from(3, 15), 10),
+            (from(3, 12), 11),
+            (from(2, 18), 12),
+            (from(2, 10), 13),
+            (from(2, 8), 14),
+            (from(2, 8), 15),
+            (from(3, 12), 16),
+        ])
     }
 
     /// A record with so many expressions.
