@@ -50,27 +50,26 @@ fn answer_lines(input: impl BufRead) -> Verdict {
 /// `check`: says where a file's answers differ from the oracle's, and how many agree.
 fn check_file(file: &str) -> Verdict {
     let input = File::open(file).map_err(|error| format!("{file}: {error}"))?;
+    let mut output = BufWriter::new(io::stdout().lock());
     let (mut agreeing, mut all) = (0_usize, 0_usize);
     for line in BufReader::new(input).lines() {
         all += 1;
         let line = line.map_err(|error| format!("{file}: {error}"))?;
         let claim = line::claim(&line).map_err(|fault| format!("{file}, line {all}: {fault}"))?;
-        if agrees(all, &claim) {
-            agreeing += 1;
+        match difference(&claim) {
+            None => agreeing += 1,
+            Some(difference) => writeln!(output, "line {all} differs\n{difference}").map_err(message)?,
         }
     }
-    println!("{agreeing} of {all} agree");
+    writeln!(output, "{agreeing} of {all} agree").and_then(|()| output.flush()).map_err(message)?;
     Ok(agreeing == all)
 }
 
-/// Whether a claim is the oracle's answer; prints both where it is not.
-fn agrees(number: usize, claim: &line::Claim<'_>) -> bool {
+/// The claimed answer and the oracle's, where they differ.
+fn difference(claim: &line::Claim<'_>) -> Option<String> {
     let oracle = line::answer_fields(&answer::answer(&claim.question));
     let same = oracle.iter().zip(claim.answer).all(|(oracle, claimed)| oracle.eq_ignore_ascii_case(claimed));
-    if !same {
-        println!("line {number} differs\n  file:   {}\n  oracle: {}", claim.answer.join(" "), oracle.join(" "));
-    }
-    same
+    (!same).then(|| format!("  file:   {}\n  oracle: {}", claim.answer.join(" "), oracle.join(" ")))
 }
 
 /// `vectors`: random questions with their answers.
