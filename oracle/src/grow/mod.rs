@@ -1,0 +1,94 @@
+//! Random trees of document 01, as records.
+//!
+//! Every growing function takes the room of its tree: how many records it aims at, its own included. A tree whose least
+//! form is larger takes more, so the sizes are about what was asked. Weights keep all kinds and variants frequent.
+
+mod declaration;
+mod expr;
+mod statement;
+mod text;
+mod types;
+
+use crate::answer::{Question, Root};
+use crate::random::Random;
+use crate::record::Record;
+use crate::settings;
+
+/// Why a number fits its field.
+const SMALL: &str = "a grown tree is small";
+
+/// The question of a seed and a case. Its tree is one that document 01 accepts, with float texts that Display gives.
+pub fn question(seed: u64, case: u64) -> Question {
+    let mut grower =
+        Grower { random: Random::new(seed, case), records: Vec::new(), names: Vec::new(), known: Vec::new() };
+    let root = if grower.random.chance(50) { Root::Unit } else { Root::Expr };
+    let settings = grower.settings();
+    let room = grower.room();
+    match root {
+        Root::Unit => grower.unit(room),
+        Root::Expr => grower.expr(room),
+    }
+    Question { root, settings, records: grower.records, names: grower.names }
+}
+
+/// Grows one tree.
+struct Grower {
+    random: Random,
+    records: Vec<u8>,
+    names: Vec<u8>,
+    /// Offsets and lengths of the names so far.
+    known: Vec<(u32, u32)>,
+}
+
+impl Grower {
+    /// Settings: TIGHT, OPEN, or anything in range.
+    fn settings(&mut self) -> Vec<u8> {
+        match self.random.weighted(&[(15, Some(settings::TIGHT)), (15, Some(settings::OPEN)), (70, None)]).flatten() {
+            Some(constant) => constant.to_vec(),
+            None => settings::GREATEST.iter().map(|&greatest| self.random.byte(greatest)).collect(),
+        }
+    }
+
+    /// A size to aim at.
+    fn room(&mut self) -> usize {
+        let (least, most) = self.random.weighted(&[(25, (1, 8)), (40, (4, 30)), (35, (20, 60))]).unwrap_or((1, 1));
+        self.random.between(least, most)
+    }
+
+    /// Writes a record without text.
+    fn put(&mut self, kind: u8, variant: u8, children: usize) {
+        let count = u16::try_from(children).expect(SMALL);
+        self.write(Record { kind, variant, count, ..Record::default() });
+    }
+
+    /// Writes a record with a name.
+    fn put_named(&mut self, kind: u8, variant: u8, children: usize) {
+        let count = u16::try_from(children).expect(SMALL);
+        let (a, b) = self.name();
+        self.write(Record { kind, variant, count, a, b });
+    }
+
+    fn write(&mut self, record: Record) {
+        self.records.extend(record.to_bytes());
+    }
+
+    /// A number of children: some of `low..=high`, as far as the room allows when each takes `least`.
+    fn children(&mut self, low: usize, high: usize, room: usize, least: usize) -> usize {
+        self.random.between(low, high.min(room / least))
+    }
+
+    /// Grows so many trees of at least this size in the room.
+    fn grow_each(&mut self, room: usize, children: usize, least: usize, grow: fn(&mut Self, usize)) {
+        for share in self.random.share(room, &vec![least; children]) {
+            grow(self, share);
+        }
+    }
+
+    /// A unit: n of 47 or 81.
+    fn unit(&mut self, room: usize) {
+        let left = room - 1;
+        let children = self.children(left.min(1), 4, left, 1);
+        self.put(80, 0, children);
+        self.grow_each(left, children, 1, Self::external_declaration);
+    }
+}

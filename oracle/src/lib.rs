@@ -1,0 +1,18 @@
+//! The oracle: answers for trees given as records (document 01), with the texts of the Rust module itself (000).
+//!
+//! A question goes through [`read`] (records to the tree of 001, refusals 1 to 12) and then to the Rust printer;
+//! [`joined`] is the reference for the joined question. [`grow`] makes random trees, [`mod@line`] is the format on disk.
+//! All of it is written from the words of document 01, not from our own definitions, so that it can contradict them.
+
+pub mod answer;
+pub mod grow;
+pub mod joined;
+pub mod line;
+pub mod print;
+pub mod random;
+pub mod read;
+pub mod record;
+pub mod refusal;
+pub mod settings;
+pub mod tables;
+pub mod words;

@@ -1,0 +1,91 @@
+//! The program `oracle`: answers, checks and makes lines of questions (see `oracle::line` for their format).
+
+use oracle::{answer, grow, line};
+use std::fmt::Display;
+use std::fs::File;
+use std::io::{self, BufRead, BufReader, BufWriter, Write};
+use std::process::ExitCode;
+
+const USAGE: &str = "\
+usage: oracle answer               reads lines `Unit|Expr SETTINGS RECORDS NAMES`, writes them with TEXT and JOINED
+       oracle check FILE           compares the lines of FILE, which have all six fields, with the oracle's answers
+       oracle vectors SEED COUNT   writes COUNT random questions with their answers
+Bytes are in hex, - for none. JOINED is 0 or 1, and 2 for a unit. A field !N@P is refusal N at place P; a field ? says
+that the Rust module must not be asked, since a float text is not what Rust's Display gives.";
+
+/// Whether all that was compared agrees; an error is a message for the user.
+type Verdict = Result<bool, String>;
+
+fn main() -> ExitCode {
+    let arguments: Vec<String> = std::env::args().skip(1).collect();
+    let arguments: Vec<&str> = arguments.iter().map(String::as_str).collect();
+    let verdict = match arguments[..] {
+        ["answer"] => answer_lines(io::stdin().lock()),
+        ["check", file] => check_file(file),
+        ["vectors", seed, count] => vectors(seed, count),
+        _ => Err(USAGE.to_owned()),
+    };
+    match verdict {
+        Ok(true) => ExitCode::SUCCESS,
+        Ok(false) => ExitCode::from(1),
+        Err(message) => {
+            eprintln!("{message}");
+            ExitCode::from(2)
+        }
+    }
+}
+
+/// `answer`: a line out for each line in.
+fn answer_lines(input: impl BufRead) -> Verdict {
+    let mut output = BufWriter::new(io::stdout().lock());
+    for (number, line) in (1..).zip(input.lines()) {
+        let question = line.map_err(message).and_then(|line| line::question(&line).map_err(message));
+        let question = question.map_err(|message| format!("line {number}: {message}"))?;
+        writeln!(output, "{}", line::answered(&question, &answer::answer(&question))).map_err(message)?;
+    }
+    output.flush().map_err(message)?;
+    Ok(true)
+}
+
+/// `check`: says where a file's answers differ from the oracle's, and how many agree.
+fn check_file(file: &str) -> Verdict {
+    let input = File::open(file).map_err(|error| format!("{file}: {error}"))?;
+    let mut output = BufWriter::new(io::stdout().lock());
+    let (mut agreeing, mut all) = (0_usize, 0_usize);
+    for line in BufReader::new(input).lines() {
+        all += 1;
+        let line = line.map_err(|error| format!("{file}: {error}"))?;
+        let claim = line::claim(&line).map_err(|fault| format!("{file}, line {all}: {fault}"))?;
+        match difference(&claim) {
+            None => agreeing += 1,
+            Some(difference) => writeln!(output, "line {all} differs\n{difference}").map_err(message)?,
+        }
+    }
+    writeln!(output, "{agreeing} of {all} agree").and_then(|()| output.flush()).map_err(message)?;
+    Ok(agreeing == all)
+}
+
+/// The claimed answer and the oracle's, where they differ.
+fn difference(claim: &line::Claim<'_>) -> Option<String> {
+    let oracle = line::answer_fields(&answer::answer(&claim.question));
+    let same = oracle.iter().zip(claim.answer).all(|(oracle, claimed)| oracle.eq_ignore_ascii_case(claimed));
+    (!same).then(|| format!("  file:   {}\n  oracle: {}", claim.answer.join(" "), oracle.join(" ")))
+}
+
+/// `vectors`: random questions with their answers.
+fn vectors(seed: &str, count: &str) -> Verdict {
+    let number = |word: &str| word.parse::<u64>().map_err(|error| format!("{word}: {error}"));
+    let (seed, count) = (number(seed)?, number(count)?);
+    let mut output = BufWriter::new(io::stdout().lock());
+    for case in 0..count {
+        let question = grow::question(seed, case);
+        writeln!(output, "{}", line::answered(&question, &answer::answer(&question))).map_err(message)?;
+    }
+    output.flush().map_err(message)?;
+    Ok(true)
+}
+
+/// An error's text.
+fn message(error: impl Display) -> String {
+    error.to_string()
+}

@@ -1,0 +1,100 @@
+//! Random trees: all are good, and some thousand of them show everything that document 01's tables have.
+
+use oracle::answer::{answer, Outcome, Question, Root};
+use oracle::random::Random;
+use oracle::record::{shape, Record, SIZE};
+use oracle::{grow, settings};
+use std::collections::BTreeSet;
+
+const CASES: u64 = 3_000;
+
+fn questions() -> impl Iterator<Item = Question> {
+    (0..CASES).map(|case| grow::question(1, case))
+}
+
+fn records(question: &Question) -> impl Iterator<Item = Record> + '_ {
+    question.records.as_chunks::<SIZE>().0.iter().map(Record::from_bytes)
+}
+
+#[test]
+fn every_tree_is_answered() {
+    for seed in 1..=3 {
+        for case in 0..CASES {
+            let text = answer(&grow::question(seed, case)).text;
+            assert!(matches!(text, Outcome::Given(_)), "seed {seed}, case {case}: {text:?}");
+        }
+    }
+}
+
+#[test]
+fn every_kind_and_variant_comes_up() {
+    let seen: BTreeSet<(u8, u8)> =
+        questions().flat_map(|q| records(&q).map(|r| (r.kind, r.variant)).collect::<Vec<_>>()).collect();
+    let all = (0..=255).flat_map(|kind| (0..=255).map(move |variant| (kind, variant)));
+    let missing: Vec<_> = all.filter(|&(k, v)| shape(k, v).is_some() && !seen.contains(&(k, v))).collect();
+    assert_eq!(missing, []);
+}
+
+#[test]
+fn every_settings_value_comes_up() {
+    let seen: BTreeSet<(usize, u8)> = questions().flat_map(|q| q.settings.into_iter().enumerate()).collect();
+    let values: usize = settings::GREATEST.iter().map(|&greatest| usize::from(greatest) + 1).sum();
+    assert_eq!(seen.len(), values);
+    for constant in [settings::TIGHT, settings::OPEN] {
+        assert!(questions().any(|q| q.settings == constant));
+    }
+}
+
+#[test]
+fn sizes_go_from_1_to_about_60() {
+    for root in [Root::Unit, Root::Expr] {
+        let sizes: Vec<usize> = questions().filter(|q| q.root == root).map(|q| records(&q).count()).collect();
+        assert_eq!(sizes.iter().min(), Some(&1));
+        assert!(sizes.iter().max().is_some_and(|most| (50..=90).contains(most)), "{root:?}");
+    }
+}
+
+#[test]
+fn names_have_every_sort_of_length_and_are_shared() {
+    let variables: Vec<Vec<(u32, u32)>> =
+        questions().map(|q| records(&q).filter(|r| r.kind == 1).map(|r| (r.a, r.b)).collect()).collect();
+    let lengths: BTreeSet<u32> = variables.iter().flatten().map(|&(_, length)| length).collect();
+    assert!(lengths.len() > 40 && lengths.contains(&1) && lengths.contains(&255));
+    assert!(variables.iter().any(|places| places.iter().collect::<BTreeSet<_>>().len() < places.len()));
+}
+
+#[test]
+fn joined_is_answered_both_ways() {
+    let joined = questions().filter(|q| answer(q).joined == Some(Outcome::Given(true))).count();
+    let not = questions().filter(|q| answer(q).joined == Some(Outcome::Given(false))).count();
+    assert!(joined > 50 && not > 500, "{joined} joined, {not} not");
+}
+
+/// Spoils a question: another byte, or a record too few or too many.
+fn damaged(question: Question, random: &mut Random) -> Question {
+    let Question { mut records, mut names, .. } = question;
+    let last = records.len() / SIZE - 1;
+    let start = SIZE * random.between(0, last);
+    match random.byte(6) {
+        0 => records.truncate(start),
+        1 => records.extend_from_within(start..start + SIZE),
+        2 => names.truncate(random.between(0, names.len())),
+        3 => records[start] = random.byte(81),
+        4 => records[start + 2] = random.byte(1),
+        _ => records[start + random.between(1, SIZE - 1)] = random.byte(30),
+    }
+    Question { records, names, ..question }
+}
+
+#[test]
+fn damaged_trees_are_refused_or_answered() {
+    let mut random = Random::new(1, CASES);
+    let mut refusals = BTreeSet::new();
+    for question in questions().chain(questions()) {
+        if let Outcome::Refused(refusal) = answer(&damaged(question, &mut random)).text {
+            refusals.insert(refusal.number());
+        }
+    }
+    // 1 and 3 need other settings and long names, 6 a deep tree.
+    assert_eq!(refusals, BTreeSet::from([2, 4, 5, 7, 8, 9, 10, 11, 12]));
+}
