@@ -1,5 +1,6 @@
 #!/usr/bin/env python3
-"""vectors.py FILE [COUNT [KEPT]]: writes crates/vectors/proofs from the oracle's answers in FILE, as theorems by computation about the definition of the
+"""vectors.py --lines: prints the vectors of crates/vectors/proofs again as lines of the oracle, for `oracle check`.
+vectors.py FILE [COUNT [KEPT]]: writes crates/vectors/proofs from the oracle's answers in FILE, as theorems by computation about the definition of the
 text.
 
 A line of FILE is: Expr or Unit, then settings, records, names and text in hex (`-` for none), then the answer to the joined question (0, 1; 2: not
@@ -9,6 +10,7 @@ kinds that none before has shown, shorter ones first; then the shortest of the o
 looked for. Run it from the repository's root."""
 import glob
 import os
+import re
 import sys
 
 PER_MODULE = 25
@@ -77,7 +79,24 @@ def module(first, vectors):
     return "\n".join(lines)
 
 
+def unquoted(text):
+    return re.sub(r"\\(.)", lambda m: {"n": "\n", "t": "\t"}.get(m.group(1), m.group(1)), text).encode("ascii")
+
+
+def print_lines():
+    """The vectors of the crate, as they came from the oracle."""
+    quote = r'"((?:[^"\\]|\\.)*)"'
+    pattern = re.compile(r"Vector\s*\((unit|expr|joined-expr)\s+" + r"\s+".join([quote] * 4) + r"\)")
+    for path in sorted(glob.glob(FOLDER + "/V*.antt")):
+        with open(path, encoding="utf-8") as file:
+            for sort, settings, records, names, text in pattern.findall(file.read()):
+                root, joined = {"unit": ("Unit", "2"), "expr": ("Expr", "0"), "joined-expr": ("Expr", "1")}[sort]
+                print(root, settings, records, unquoted(names).hex() or "-", unquoted(text).hex() or "-", joined)
+
+
 def main():
+    if sys.argv[1:] == ["--lines"]:
+        return print_lines()
     count = int(sys.argv[2]) if len(sys.argv) > 2 else 300
     vectors = chosen(lines(sys.argv[1]), count) + (lines(sys.argv[3]) if len(sys.argv) > 3 else [])
     for old in glob.glob(FOLDER + "/V*.antt"):

@@ -9,6 +9,7 @@
 
 Run it from the repository's root after a change of the list. Nothing here is trusted: the check proves all of it against the list."""
 import re
+import sys
 
 CRATE = 'crates/words/'
 WIDEST, BUCKETS = 23, 128  # as specs/Table and specs/Bucket have them
@@ -71,7 +72,11 @@ following = [(k, buckets.index(b, k + 1)) for k, b in enumerate(buckets) if b in
 # ---- the files
 
 def write(name, text):
-    open(CRATE + name, 'w', encoding='utf-8').write(text)
+    """Writes the file; with `--check` only says whether it is what would be written."""
+    if sys.argv[1:] != ['--check']:
+        open(CRATE + name, 'w', encoding='utf-8').write(text)
+    elif open(CRATE + name, encoding='utf-8').read() != text:
+        sys.exit(CRATE + name + ' is not what tools/words.py writes')
 
 
 def constants():
