@@ -29,7 +29,8 @@ sub-result : tie.Need-sub-result Inv-loop μ-loop
 sub-result c = omega arith
 
 returns : tie.Need-returns Inv-loop μ-loop
-returns c = let a = c .before .before .before .before .before .before .args in
+returns c =
+    let a = c .before .before .before .before .before .before .args in
     omega (arith, digits-stop (a .s .now) (c .before .before .before .before .loop .i) (c .before .before .before .loop-test .taken) (sym (c .before .is-digit .ensures) ∙ not-true _ (c .if1 .taken)))
 
 add-i : tie.Need-add-i Inv-loop μ-loop
@@ -39,7 +40,8 @@ loop-less : tie.Need-loop-less Inv-loop μ-loop
 loop-less c = omega arith
 
 loop-again : tie.Need-loop-again Inv-loop μ-loop
-loop-again c = let a = c .before .before .before .before .before .before .args in
+loop-again c =
+    let a = c .before .before .before .before .before .before .args in
     (omega arith, omega arith, omega (arith, digits-more (a .s .now) (c .before .before .before .before .loop .i) (c .before .before .before .loop-test .taken) (sym (c .before .is-digit .ensures) ∙ not-false _ (c .if1 .left))))
 
 sub-result-2 : tie.Need-sub-result-2 Inv-loop μ-loop

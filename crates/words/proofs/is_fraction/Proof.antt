@@ -7,7 +7,8 @@ use Rattle.words.proofs.is_fraction.Statement.{statement}
 use Rattle.words.proofs.is_fraction.Tie as tie
 
 returns : tie.Need-returns
-returns c = let a = c .before .before .args in
+returns c =
+    let a = c .before .before .args in
     sym (fraction-nothing (a .s .now) (a .start) (omega arith))
 
 digits-from-requires : tie.Need-digits-from-requires
@@ -17,7 +18,8 @@ sub-if2 : tie.Need-sub-if2
 sub-if2 c = search needs
 
 returns-2 : tie.Need-returns-2
-returns-2 c = let a = c .before .before .before .before .args in
+returns-2 c =
+    let a = c .before .before .before .before .args in
     sym (fraction-cut (a .s .now) (a .start) (omega arith) (omega arith))
 
 sub-result : tie.Need-sub-result
@@ -27,7 +29,8 @@ shared-slice-read-result : tie.Need-shared-slice-read-result
 shared-slice-read-result c = search needs
 
 returns-3 : tie.Need-returns-3
-returns-3 c = let a = c .before .before .before .before .before .args in
+returns-3 c =
+    let a = c .before .before .before .before .before .args in
     sym (fraction-whole (a .s .now) (a .start) (omega arith) (omega arith))
 
 pub is-fraction-spec : {M : Type 1} → statement M

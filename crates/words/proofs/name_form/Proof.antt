@@ -33,7 +33,8 @@ is-fixed-word-requires : tie.Need-is-fixed-word-requires
 is-fixed-word-requires c κs = search needs
 
 returns-5 : tie.Need-returns-5
-returns-5 c = let h = c .before .before .before .before .before .before .before .if1 .left in
+returns-5 c =
+    let h = c .before .before .before .before .before .before .before .if1 .left in
     let l = c .before .before .before .before .before .before .if2 .left in
     ap not (c .is-fixed-word .ensures)
     ∙ sym

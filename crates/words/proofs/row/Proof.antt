@@ -37,12 +37,14 @@ part-result-start : tie.Need-part-result-start
 part-result-start c = search needs
 
 part-result-end : tie.Need-part-result-end
-part-result-end c = let a = c .before .before .before .before .args in
+part-result-end c =
+    let a = c .before .before .before .before .args in
     let e = length-here (a .table .now) (c .before .before .before .before .pre) (a .k) (c .before .before .if1 .left) in
     omega (arith, c .wide .ensures .0, e, text-fits (a .k), ap length (c .before .before .before .before .pre), table-length)
 
 returns-2 : tie.Need-returns-2
-returns-2 c = let a = c .before .before .before .before .before .args in
+returns-2 c =
+    let a = c .before .before .before .before .before .args in
     let e = c .before .wide .ensures .0 ∙ length-here (a .table .now) (c .before .before .before .before .before .pre) (a .k) (c .before .before .before .if1 .left) in
     let n : 24 * a .k + c .before .wide .result - 24 * a .k ≡ length (textAt (a .k)) = omega (arith, e) in
     text-here (a .table .now) (c .before .before .before .before .before .pre) (a .k) (c .before .before .before .if1 .left) _ n

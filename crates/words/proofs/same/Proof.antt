@@ -27,7 +27,8 @@ shared-slice-read-if2-2 : tie.Need-shared-slice-read-if2-2 Inv-loop μ-loop
 shared-slice-read-if2-2 c = omega arith
 
 returns-2 : tie.Need-returns-2 Inv-loop μ-loop
-returns-2 c = let inv = c .before .before .before .before .loop .inv in
+returns-2 c =
+    let inv = c .before .before .before .before .loop .inv in
     let a = c .before .before .before .before .before .before .args in
     sym (same-stop (a .a .now) (a .b .now) {i = c .before .before .before .before .loop .i} (omega arith) (omega arith) (inv .2) (c .if2 .taken))
 
@@ -38,12 +39,14 @@ loop-less : tie.Need-loop-less Inv-loop μ-loop
 loop-less c = omega arith
 
 loop-again : tie.Need-loop-again Inv-loop μ-loop
-loop-again c = let inv = c .before .before .before .before .loop .inv in
+loop-again c =
+    let inv = c .before .before .before .before .loop .inv in
     let a = c .before .before .before .before .before .before .args in
     (omega arith, inv .1, same-more (a .a .now) (a .b .now) {i = c .before .before .before .before .loop .i} (omega arith) (omega arith) (inv .2) (c .if2 .left))
 
 returns-3 : tie.Need-returns-3 Inv-loop μ-loop
-returns-3 c = let inv = c .before .loop .inv in
+returns-3 c =
+    let inv = c .before .loop .inv in
     sym (same-done _ _ {i = c .before .loop .i} (omega arith) (omega arith) (inv .2))
 
 pub same-spec : {M : Type 1} → statement M
