@@ -5,7 +5,7 @@ use Prim.Native.Nat.{_-_, _^_}
 use Prim.Native.Char.{code}
 use lib.IntN.{pos, negsuc}
 use lib.ListN.{length}
-use Rattle.decimal.specs.Decimal.{digits, decimal, magnitude, signed}
+use Rattle.decimal.specs.Decimal.{digits, decimal, magnitude, signed, intText}
 use Rattle.room.specs.Room.{laid}
 
 -- the least i32, -2147483648: its magnitude fits no i32, and its text with the sign has eleven characters
@@ -17,12 +17,12 @@ least-signed : signed (2 ^ 31) ≡ negsuc 2147483647
 unfolding signed
 least-signed = refl
 
-least-text : code "-" ∷ decimal (magnitude (2 ^ 31)) ≡ code "-" ∷ code "2" ∷ code "1" ∷ code "4" ∷ code "7" ∷ code "4" ∷ code "8" ∷ code "3" ∷ code "6" ∷ code "4" ∷ code "8" ∷ []
-unfolding magnitude decimal digits
+least-text : intText (2 ^ 31) ≡ code "-" ∷ code "2" ∷ code "1" ∷ code "4" ∷ code "7" ∷ code "4" ∷ code "8" ∷ code "3" ∷ code "6" ∷ code "4" ∷ code "8" ∷ []
+unfolding intText magnitude decimal digits
 least-text = refl
 
-least-width : length (code "-" ∷ decimal (magnitude (2 ^ 31))) ≡ 11
-unfolding magnitude decimal digits
+least-width : length (intText (2 ^ 31)) ≡ 11
+unfolding intText magnitude decimal digits
 least-width = refl
 
 -- the greatest i32 and -1 are on either side of it

@@ -1,4 +1,5 @@
 pub mod Examples
+pub mod IntText
 pub mod Laws
 pub mod Places
 pub mod Sign

@@ -35,3 +35,7 @@ magnitude a = cond (negative a) (2 ^ 32 - a) a
 -- the number itself: -1 - k is `negsuc k`
 unfoldable pub signed : ℕ → ℤ
 signed a = cond (negative a) (negsuc (2 ^ 32 - 1 - a)) (pos a)
+
+-- the text of an i32 from its 32 bits: a sign where it is negative, then how far it is from 0 (000 show_expr: `write!(f, "{}", x)`)
+unfoldable pub intText : ℕ → List ℕ
+intText a = cond (negative a) (code "-" ∷ decimal (magnitude a)) (decimal (magnitude a))

@@ -6,6 +6,8 @@ use Prim.Native.Nat.{ℕ, _*_}
 use Prim.Native.Char.{code}
 use lib.ListN.{replicate}
 use Rattle.words.specs.Bytes.{bytes}
+use Rattle.words.specs.Symbol.{Symbol}
+use Rattle.decimal.specs.Decimal.{negative, magnitude}
 use Rattle.settings.specs.declared.Settings.{Settings}
 use Rattle.settings.specs.declared.FormattingState.{FormattingState}
 use Rattle.settings.specs.declared.IndentStyle.the-variants as Indent
@@ -13,9 +15,10 @@ use Rattle.settings.specs.declared.Whitespace.{Whitespace}
 use Rattle.settings.specs.declared.Whitespace.the-variants as White
 use Rattle.text.specs.Token.{Token, has, point, pointed, spell}
 use Rattle.text.specs.Asked.{Flag, Gap, flag, gap}
-use Rattle.text.specs.Command.{Command}
+use Rattle.text.specs.Command.{Command, symbol}
 use Rattle.text.specs.Command.Command.{token, space, space-if, space-at-body-if, newline-if, whitespace, write-indent, write-line, flush-line, flush-space, consume-newline, indent, dedent, enter-function-definition-statement, consume-function-definition-statement}
 use Rattle.text.specs.Pen.{pend, atBody, indentOf}
+use Rattle.text.specs.Text.{show-int}
 use Rattle.pen.specs.declared.Pen.{Pen}
 use Rattle.pen.specs.Sheet.{Sheet, leave, lay}
 use Rattle.pen.specs.Run.{stateOf, turned, asked, deeper, shallower, spaceWhere, line, whiten, step, run}
@@ -97,6 +100,14 @@ module _ {s : Settings} {room : List ℕ} {p : Pen} where
     pub by-consume-function-definition-statement : p′ ≡ leave (atBody false (p .state)) p → Ran s (consume-function-definition-statement ∷ []) room p room p′
     unfolding run step
     by-consume-function-definition-statement e = record { ran = ap (sheet room) (sym e) }
+
+-- an i32 with its sign, and without
+module _ {s : Settings} {room room′ : List ℕ} {p p′ : Pen} (bits : ℕ) where
+  pub below-zero : negative bits ≡ true → Ran s (symbol Symbol.dash ∷ token (Token.int (magnitude bits)) ∷ []) room p room′ p′ → Ran s (show-int bits) room p room′ p′
+  below-zero e a = rw e a
+
+  pub from-zero : negative bits ≡ false → Ran s (token (Token.int (magnitude bits)) ∷ []) room p room′ p′ → Ran s (show-int bits) room p room′ p′
+  from-zero e a = rw e a
 
 -- a promise for every room is one for this room, and the other way round
 pub here : {s : Settings} {cs : List Command} {p p′ : Pen} {room : List ℕ} → Turned s cs p p′ → Ran s cs room p room p′

@@ -12,6 +12,7 @@ ghost use Rattle.decimal.specs.Decimal.{decimal};
 ghost use Rattle.records.specs.Record.{part};
 ghost use Rattle.settings.specs.declared.Settings.{Settings};
 ghost use Rattle.text.specs.Token.{Token, spell};
+ghost use Rattle.text.specs.Text.{show-int};
 ghost use Rattle.text.specs.Pen.{pend, atBody};
 ghost use Rattle.pen.specs.Sheet.{forward, leave};
 ghost use Rattle.pen.specs.Run.{deeper, shallower};
@@ -86,6 +87,17 @@ impl Pen {
         ensures { λ r. ⌜ Wrote (spell (Token.uint n)) (now (room .entry)) self (now (room .exit)) r ⌝ }
     {
         self.write_digits(room, n, b"u")
+    }
+
+    // An i32 from its 32 bits, which is one token or, with its sign, two. It asks the settings for nothing.
+    pub fn write_signed(self, room: &mut [u8], bits: u32) -> Pen
+        ensures { λ r. ⌜ ((s : Settings) → Ran s (show-int bits) (now (room .entry)) self (now (room .exit)) r) ⌝ }
+    {
+        let n = decimal::magnitude_of(bits);
+        if decimal::is_negative(bits) {
+            return self.write_char(room, b'-').write_int(room, n);
+        }
+        self.write_int(room, n)
     }
 
     pub fn write_float(self, room: &mut [u8], text: &[u8]) -> Pen

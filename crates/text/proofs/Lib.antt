@@ -1,6 +1,7 @@
 pub mod Computing
 pub mod Rows
 pub mod Orders
+pub mod IntText
 pub mod OnlyLayout
 pub mod Append
 pub mod At
