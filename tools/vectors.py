@@ -26,7 +26,7 @@ def read(line):
     return root, unhex(settings), unhex(records), unhex(names), unhex(text), joined
 
 
-def lines(path):
+def read_all(path):
     with open(path, encoding="ascii") as file:
         return [read(line) for line in file]
 
@@ -62,20 +62,22 @@ def module(first, vectors):
         "-- Texts of the Rust module. Made by tools/vectors.py. Assumes nothing.",
         "use mathlib.Core.Path.{refl}",
         "use Rattle.text.proofs.Computing.{computing}",
-        "use Rattle.vectors.specs.Vector.{Vector, expr, joined-expr, unit, holds, hex}",
         "",
     ]
+    sorts = set()
     for i, (root, settings, records, names, text, joined) in enumerate(vectors, first):
         sort = {"Unit2": "unit", "Expr0": "expr", "Expr1": "joined-expr"}[root + joined]
+        sorts.add(sort)
         lines += [
             f'pub v{i} : Vector ({sort} "{settings.hex()}"',
             f'    "{records.hex()}"',
             f"    {quoted(names)}",
             f"    {quoted(text)})",
-            "unfolding computing holds hex",
+            "unfolding computing defined hex",
             f"v{i} = record {{ outcome = refl; size = refl }}",
             "",
         ]
+    lines.insert(3, "use Rattle.vectors.specs.Vector.{Vector, " + ", ".join(sorted(sorts)) + ", defined, hex}")
     return "\n".join(lines)
 
 
@@ -98,7 +100,7 @@ def main():
     if sys.argv[1:] == ["--lines"]:
         return print_lines()
     count = int(sys.argv[2]) if len(sys.argv) > 2 else 300
-    vectors = chosen(lines(sys.argv[1]), count) + (lines(sys.argv[3]) if len(sys.argv) > 3 else [])
+    vectors = chosen(read_all(sys.argv[1]), count) + (read_all(sys.argv[3]) if len(sys.argv) > 3 else [])
     for old in glob.glob(FOLDER + "/V*.antt"):
         os.remove(old)
     names = []

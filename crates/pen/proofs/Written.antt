@@ -3,13 +3,12 @@
 use mathlib.Core.Path.{_≡_, refl, sym, ap, _∙_, subst}
 use mathlib.Core.Bool.{Bool, true, false, cond}
 use mathlib.Core.List.{List, [], _∷_, _++_}
-use Prim.Native.Nat.{ℕ, suc, _+_, _-_, _≤_, _<_}
+use Prim.Native.Nat.{ℕ, suc, _+_, _-_, _≤_}
 use native.Mathlib.Omega.{arith}
 use lib.ListN.{length, length-append}
-use lib.Seq.{sets, length-sets}
+use lib.Seq.{sets}
 use borrow.Author.Tests.{le-leb}
 use Rattle.words.specs.Bytes.{bytes}
-use Rattle.room.specs.Room.{laid}
 use Rattle.room.proofs.Laid.{laid-fits, length-laid}
 use Rattle.room.proofs.Fit.{sets-append}
 use Rattle.settings.specs.declared.Settings.{Settings}
@@ -22,8 +21,8 @@ use Rattle.text.specs.Command.{Command}
 use Rattle.text.specs.Command.Command.{token, space, space-if, space-at-body-if, newline-if, whitespace, write-indent, write-line, flush-line, flush-space, consume-newline, indent, dedent, enter-function-definition-statement, consume-function-definition-statement}
 use Rattle.text.specs.Pen.{pend, atLevel, indentOf, lineOf, whitespaceText, whitespaceState, written, after, text, afterAll}
 use Rattle.pen.specs.declared.Pen.{Pen}
-use Rattle.pen.specs.Sheet.{Sheet, last-place, last-level, upTo, leave, lay}
-use Rattle.pen.specs.Run.{stateOf, turned, asked, deeper, spaceWhere, line, whiten, step, run}
+use Rattle.pen.specs.Sheet.{Sheet, last-place, last-level, leave, lay}
+use Rattle.pen.specs.Run.{stateOf, turned, spaceWhere, line, whiten, step, run}
 use Rattle.pen.specs.Promise.{sheet, Ran}
 use Rattle.pen.specs.Climbs.{climb, climbs}
 

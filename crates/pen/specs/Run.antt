@@ -2,7 +2,7 @@
 -- nothing.
 use mathlib.Core.Bool.{Bool, true, false, _&&_, cond}
 use mathlib.Core.List.{List, [], _∷_}
-use Prim.Native.Nat.{ℕ, _+_, _-_}
+use Prim.Native.Nat.{_+_, _-_}
 use Rattle.words.specs.Bytes.{bytes}
 use Rattle.settings.specs.declared.Settings.{Settings}
 use Rattle.settings.specs.declared.FormattingState.{FormattingState}
@@ -13,7 +13,6 @@ use Rattle.text.specs.Asked.{flag, gap}
 use Rattle.text.specs.Command.{Command}
 use Rattle.text.specs.Command.Command.{token, space, space-if, space-at-body-if, newline-if, whitespace, write-indent, write-line, flush-line, flush-space, consume-newline, indent, dedent, enter-function-definition-statement, consume-function-definition-statement}
 use Rattle.text.specs.Pen.{pend, atLevel, atBody, indentOf}
-use Rattle.pen.specs.declared.Pen.{Pen}
 use Rattle.pen.specs.Sheet.{Sheet, last-level, upTo, leave, lay}
 
 abbrev pub stateOf : Sheet → FormattingState

@@ -2,7 +2,7 @@
 //
 // Not here: move_to_empty_line and exit_external_declaration, which only directives need; they come with request #101, with the two fields that they use.
 ghost use mathlib.Core.Path.{_≡_};
-ghost use mathlib.Core.Bool.{true, false, cond};
+ghost use mathlib.Core.Bool.{true, false};
 ghost use mathlib.Core.List.{[], _∷_};
 ghost use Rattle.settings.specs.declared.Settings.{Settings};
 ghost use Rattle.text.specs.Token.{Token};

@@ -1,7 +1,6 @@
 -- What stands at record i, from the records behind it. Assumes nothing.
 use mathlib.Core.Path.{_≡_, refl, ap, sym, _∙_}
-use mathlib.Core.Bool.{Bool, true, false}
-use mathlib.Core.List.{List, [], _∷_, _++_}
+use mathlib.Core.List.{List, [], _∷_}
 use mathlib.Core.Logic.{⊎-elim}
 use Prim.Native.Nat.{ℕ, zero, suc, _+_, _-_, _<_, _≤_}
 use native.Mathlib.Omega.{arith}
@@ -11,8 +10,8 @@ use lib.Dec.{eqb, eqb·suc-suc, eqb·suc-zero}
 use Rattle.text.specs.Text.{single-item}
 use lib.ListN.{drop}
 use Rattle.records.specs.Record.{recordAt, recordCount, no-record}
-use Rattle.text.specs.Tree.{Expr, Exprs, Statement, Statements}
-use Rattle.text.specs.Reading.{Read, Item, Reader, first, items, itemOf, from, itemAt, applied, _and_, give, several, unaryOp, binaryOp, assignmentOp, exprOf, typeOf, baseOf, arrayOf, dimensionOf, fieldOf, identifierOf, qualifierOf, specOf, layoutIdOf, fullTypeOf, prototypeOf, parameterOf, declaratorsOf, singleOf, declaratorOf, initializerOf, blockOf, declarationOf, compoundOf, statementOf, conditionOf, forInitOf, externalOf, unitOf, expr, callee, statement, counted, made}
+use Rattle.text.specs.Tree.{Statements}
+use Rattle.text.specs.Reading.{Read, Item, Reader, first, items, itemOf, from, itemAt, applied, _and_, give, several, exprOf, typeOf, baseOf, arrayOf, dimensionOf, fieldOf, identifierOf, qualifierOf, specOf, layoutIdOf, fullTypeOf, prototypeOf, parameterOf, declaratorsOf, singleOf, declaratorOf, initializerOf, blockOf, declarationOf, compoundOf, statementOf, conditionOf, forInitOf, externalOf, unitOf, statement, made}
 
 below : {A : Type 0} (i n : ℕ) → (i < n → A) → (n ≤ i → A) → A
 below i n f g = ⊎-elim (λ (e : n - i ≡ 0). g (omega arith)) (λ (h : 0 < n - i). f (omega arith)) (eq-zero-or-pos (n - i))

@@ -1,6 +1,6 @@
 -- One order, told twice: the operators and qualifiers that Reading reads by variant are spelled as the rows of the word table stand. Assumes nothing.
 use mathlib.Core.Path.{_≡_, refl}
-use mathlib.Core.Bool.{Bool, false, true}
+use mathlib.Core.Bool.{false, true}
 use mathlib.Core.List.{List, [], _∷_, _++_, map}
 use Prim.Native.Nat.{ℕ, zero, suc, _+_}
 use Rattle.words.specs.Word.{Word, qualifierWords, boolWords}

@@ -1,6 +1,6 @@
 -- The joined question (01, "Calls"): in TIGHT, does some binary + or - have a bare right operand whose text begins with the same sign? Assumes
 -- nothing.
-use mathlib.Core.Bool.{Bool, true, false, _&&_, _||_}
+use mathlib.Core.Bool.{Bool, false, _&&_, _||_}
 use mathlib.Core.List.{List}
 use Prim.Native.Nat.{ℕ}
 use Prim.Native.Char.{code}

@@ -51,8 +51,9 @@ expr = case false (some false)
 abbrev pub joined-expr : String → String → String → String → Case
 joined-expr = case false (some true)
 
-unfoldable pub holds : Case → Outcome
-holds c = record {
+-- what the definition says of it
+unfoldable pub defined : Case → Outcome
+defined c = record {
   text = cond (c .is-unit) (unitText (c .settings) (c .records) (c .names)) (exprText (c .settings) (c .records) (c .names));
   joined = cond (c .is-unit) none (some (joinedAnswer (c .records) (c .names)));
 }
@@ -61,5 +62,5 @@ abbrev pub sizeRead : Case → ℕ
 sizeRead c = cond (c .is-unit) (itemAt (c .records) (c .names) 0 .unit .size) (itemAt (c .records) (c .names) 0 .expr .size)
 
 pub record Vector (c : Case) : Type 0 where
-  pub outcome : holds c ≡ c .outcome
+  pub outcome : defined c ≡ c .outcome
   pub size : sizeRead c ≡ recordCount (c .records)

@@ -3,7 +3,7 @@ use lib.ListN.{length, drop, length-set, drop-of-length-le}
 use native.Mathlib.Nat.{add-zero}
 -- `copy` meets its contract: what is left to store from here on is all of it from the start. Assumes nothing.
 use lib.Seq.{sets}
-use mathlib.Core.Path.{_≡_, refl, sym, _∙_}
+use mathlib.Core.Path.{_≡_, refl}
 use Prim.Native.Nat.{_+_, _-_, _≤_}
 use native.Mathlib.Omega.{arith}
 use Rattle.room.proofs.copy.Statement.{statement}

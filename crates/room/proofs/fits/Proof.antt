@@ -1,6 +1,5 @@
 use Rattle.room.proofs.Fit.{fits-behind, fits-not}
 -- `fits` meets its contract. Assumes nothing.
-use native.Mathlib.Omega.{arith}
 use Rattle.room.proofs.fits.Statement.{statement}
 use Rattle.room.proofs.fits.Tie as tie
 

@@ -26,7 +26,7 @@ same-length c = search needs
 
 returns : tie.Need-returns
 unfolding spell symbolText
-returns c = 
+returns c =
     λ s. below-zero (c .before .before .before .before .before .before .before .before .before .before .before .before .args .bits) (sym (c .before .before .before .before .before .before .before .before .before .is-negative .ensures) ∙ c .before .before .before .before .before .before .before .before .if1 .taken)
     (by-token (Token.symbol Symbol.dash) refl (c .before .before .before .before .before .before .write-char .ensures) then by-token (Token.int (magnitude (c .before .before .before .before .before .before .before .before .before .before .before .before .args .bits))) (ap (λ (n : ℕ). spell (Token.int n)) (c .before .before .before .before .before .before .before .before .before .before .magnitude-of .ensures)) (c .before .before .write-int .ensures))
 
