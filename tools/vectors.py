@@ -1,19 +1,23 @@
 #!/usr/bin/env python3
-"""vectors.py --lines: prints the vectors of crates/vectors/proofs again as lines of the oracle, for `oracle check`.
-vectors.py FILE [COUNT [KEPT]]: writes crates/vectors/proofs from the oracle's answers in FILE, as theorems by computation about the definition of the
-text.
+"""vectors.py FILE [COUNT [KEPT]]: writes crates/vectors/proofs from the oracle's answers in FILE, as theorems by computation about the definition of the
+text. What stands there was made, from the repository's root, by
 
-A line of FILE is: Expr or Unit, then settings, records, names and text in hex (`-` for none), then the answer to the joined question (0, 1; 2: not
-asked). The texts were written by the Rust module (000), the joined answers by a reference of its own.
-Of the lines so many are taken as COUNT says (300): first those that show a kind and variant, a settings value or a pair of parent and child
-kinds that none before has shown, shorter ones first; then the shortest of the others. All lines of KEPT are taken besides: cases that someone
-looked for. Run it from the repository's root."""
+    oracle/target/release/oracle vectors 1 6000 > target/lines && python3 tools/vectors.py target/lines 300 tools/kept-vectors.txt
+
+vectors.py --lines: prints the vectors of crates/vectors/proofs again as lines of the oracle, for `oracle check`.
+
+A line is: Expr or Unit, then settings, records, names and text in hex (`-` for none), then the answer to the joined question (0, 1; 2: a unit, of which
+it is not asked). The texts are the Rust module's (000), the joined answers the oracle's own.
+Of FILE's lines so many are taken as COUNT says (300): some joined expressions, then always the line that shows most for its length that none before has
+shown (kinds with variants, neighbouring kinds, settings values). All lines of KEPT are taken besides: cases that someone looked for, because
+wrong definitions agreed with all others."""
 import glob
 import os
 import re
 import sys
 
 PER_MODULE = 25
+JOINED = 25
 FOLDER = "crates/vectors/proofs"
 
 
@@ -40,16 +44,16 @@ def shown(vector):
 
 
 def chosen(vectors, count):
-    vectors = sorted(vectors, key=lambda v: (len(v[2]) + len(v[3]), v))
-    kept, rest, seen = [], [], set()
-    for rank in ("kind", "setting", "pair"):
-        for vector in vectors:
-            new = {x for x in shown(vector) - seen if x[0] == rank}
-            if new and vector not in kept and len(kept) < count:
-                kept.append(vector)
-                seen |= shown(vector)
-    rest = [v for v in vectors if v not in kept]
-    return sorted(kept + rest[: max(0, count - len(kept))], key=lambda v: (len(v[2]), v))
+    vectors = sorted(set(vectors), key=lambda v: (len(v[2]) + len(v[3]), v))
+    kept = [v for v in vectors if v[5] == "1"][:JOINED]
+    seen = set().union(*map(shown, kept))
+    left = {v: shown(v) for v in vectors if v not in kept}
+    while left and len(kept) < count:
+        # the most that is new for the records that it costs
+        best = max(left, key=lambda v: len(left[v] - seen) / (len(v[2]) // 12 + 4))
+        seen |= left.pop(best)
+        kept.append(best)
+    return sorted(kept, key=lambda v: (len(v[2]), v))
 
 
 def quoted(data):
@@ -91,9 +95,13 @@ def print_lines():
     pattern = re.compile(r"Vector\s*\((unit|expr|joined-expr)\s+" + r"\s+".join([quote] * 4) + r"\)")
     for path in sorted(glob.glob(FOLDER + "/V*.antt")):
         with open(path, encoding="utf-8") as file:
-            for sort, settings, records, names, text in pattern.findall(file.read()):
-                root, joined = {"unit": ("Unit", "2"), "expr": ("Expr", "0"), "joined-expr": ("Expr", "1")}[sort]
-                print(root, settings, records, unquoted(names).hex() or "-", unquoted(text).hex() or "-", joined)
+            module_text = file.read()
+        found = pattern.findall(module_text)
+        if len(found) != len(re.findall(r"(?m)^pub v\d+ :", module_text)):
+            sys.exit(f"{path} holds a vector that is not read")
+        for sort, settings, records, names, text in found:
+            root, joined = {"unit": ("Unit", "2"), "expr": ("Expr", "0"), "joined-expr": ("Expr", "1")}[sort]
+            print(root, settings, records, unquoted(names).hex() or "-", unquoted(text).hex() or "-", joined)
 
 
 def main():

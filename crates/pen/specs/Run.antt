@@ -1,5 +1,5 @@
--- What each command of the definition does to a sheet, and a list of them. That this is the definition's text is proved in proofs/Text.antt. Assumes
--- nothing.
+-- What each command of the definition does to a sheet, and a list of them: the definition's bytes and state (text, Pen.antt), as far as the room and the
+-- numbers go. That this is the definition's text is proved in proofs/Written.antt. Assumes nothing.
 use mathlib.Core.Bool.{Bool, true, false, _&&_, cond}
 use mathlib.Core.List.{List, [], _∷_}
 use Prim.Native.Nat.{_+_, _-_}

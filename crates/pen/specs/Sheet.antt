@@ -12,7 +12,7 @@ pub record Sheet : Type 0 where
   pub room : List ℕ
   pub pen : Pen
 
--- where a number stops: the place at the last of 32 bits, the level at the last of 16. No tree of at most 4,096 records comes near.
+-- where a number stops: the place at the last of 32 bits, the level at the last of 16. (That no accepted tree comes near is for the printers to show.)
 abbrev pub last-place : ℕ
 last-place = 2 ^ 32 - 1
 
@@ -30,7 +30,7 @@ forward n p = record { at = upTo last-place (p .at + n); next = p .next; state =
 abbrev pub leave : FormattingState → Pen → Pen
 leave x p = record { at = p .at; next = p .next; state = x }
 
--- bytes are written all or not at all, and count in any case
+-- Bytes are written all or not at all, and count in any case. No bytes leave all as it is, whatever the place.
 unfoldable pub lay : List ℕ → Sheet → Sheet
 lay [] x = x
 lay (b ∷ bs) x = record { room = laid (x .room) (x .pen .at) (b ∷ bs); pen = forward (length (b ∷ bs)) (x .pen) }

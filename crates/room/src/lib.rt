@@ -52,6 +52,7 @@ pub fn fill(room: &mut [u8], at: usize, byte: u8, n: usize)
     }
 }
 
+// The bytes of `src`, if they fit.
 pub fn lay(room: &mut [u8], at: u32, src: &[u8])
     ensures { λ r. ⌜ now (room .exit) ≡ laid (now (room .entry)) at (now (src .entry)) ⌝ }
 {

@@ -48,7 +48,7 @@ pub enum SettingsRead {
     Refused,
 }
 
-// The state of the line layout. 000 holds the settings in it too; here they go beside it. Its two more fields are used by directives alone; they come with request #101.
+// The state of the line layout. 000's holds the settings too, which go beside it here, and two fields that only directives use, which come with request #101.
 pub struct FormattingState {
     pub indentation_level: u16,
     pub new_line_pending: bool,

@@ -68,7 +68,7 @@ written s dedent x = []
 written s enter-function-definition-statement x = []
 written s consume-function-definition-statement x = []
 
--- the state behind it. No printer leaves more levels than it entered, so no level falls below 0.
+-- the state behind it (a printer leaves the levels that it enters, so that no level is to fall below 0)
 unfoldable pub after : Settings → Command → FormattingState → FormattingState
 after s (token t) x = x
 after s space x = x

@@ -229,7 +229,7 @@ abbrev pub qualification-if : Bool → Reader Qualification
 qualification-if true = give Qualification.qualified and qualifier
 qualification-if false = give Qualification.unqualified
 
--- variants. One that is out of range is refused (7), so what it is read as never matters: here it is the last.
+-- variants. One that is out of range is refused (7), so what it is read as never matters: in these tables it is the last.
 unfoldable pub unaryOp : ℕ → UnaryOp
 unaryOp v = getD (UnaryOp.Inc ∷ UnaryOp.Dec ∷ UnaryOp.Add ∷ UnaryOp.Minus ∷ UnaryOp.Not ∷ []) v UnaryOp.Complement
 
@@ -415,7 +415,7 @@ module _ (names : List ℕ) (r : Record) where
   unfoldable pub unitOf : Reader TranslationUnit
   unitOf = by-kind (r .kind) [] (kind 80 (several n external [] _∷_) ∷ [])
 
--- record i, before the records L
+-- what a record is, before the records L
 unfoldable pub itemOf : List ℕ → Record → List Item → Item
 itemOf names r L = record {
   kind = r .kind;

@@ -248,6 +248,7 @@ unfoldable mutual
   show-array-spec ArraySpecifier.no-dimensions = []
   show-array-spec (ArraySpecifier.dimensions d ds) = show-dimension d ++ show-array-spec ds
 
+  -- in show_array_spec
   pub show-dimension : ArraySpecifierDimension → List Command
   show-dimension ArraySpecifierDimension.no-dimension = []
   show-dimension ArraySpecifierDimension.Unsized = in-square-brackets []
@@ -262,6 +263,7 @@ unfoldable mutual
   show-arrayed-identifiers (ArrayedIdentifiers.identifiers i is) first =
       separator first ++ show-arrayed-identifier i ++ show-arrayed-identifiers is false
 
+  -- where there is a qualifier, a space stands behind it
   pub show-qualification : Qualification → List Command
   show-qualification Qualification.unqualified = []
   show-qualification (Qualification.qualified q) = show-type-qualifier q true ++ a-space
@@ -333,6 +335,7 @@ show-function-parameter-declaration FunctionParameterDeclaration.no-parameter = 
 show-function-parameter-declaration (FunctionParameterDeclaration.Unnamed q t) = show-qualification q ++ show-type-specifier t
 show-function-parameter-declaration (FunctionParameterDeclaration.Named q t i) = show-qualification q ++ show-type-specifier t ++ a-space ++ show-arrayed-identifier i
 
+-- in show_function_prototype
 unfoldable pub show-parameters : List FunctionParameterDeclaration → (first : Bool) → List Command
 show-parameters [] first = []
 show-parameters (p ∷ ps) first = separator first ++ show-function-parameter-declaration p ++ show-parameters ps false

@@ -167,7 +167,7 @@ pub fn name_form(table: &Words, s: &[u8]) -> bool
     !is_fixed_word(table, s)
 }
 
-// Whether s has the form of a name.
+// Whether s has the form of a name. It makes the table for itself, which costs more than the answer: who asks often lends one to `name_form`.
 pub fn is_name(s: &[u8]) -> bool
     ensures { λ r. ⌜ r ≡ Form.nameForm (now (s .entry)) ⌝ }
 {
