@@ -65,6 +65,7 @@ def module(first, vectors):
     lines = [
         "-- Texts of the Rust module. Made by tools/vectors.py. Assumes nothing.",
         "use mathlib.Core.Path.{refl}",
+        "use Rattle.text.proofs.Case.{defined}",
         "use Rattle.text.proofs.Computing.{computing}",
         "",
     ]
@@ -81,7 +82,7 @@ def module(first, vectors):
             f"v{i} = record {{ outcome = refl; size = refl }}",
             "",
         ]
-    lines.insert(3, "use Rattle.vectors.specs.Vector.{Vector, " + ", ".join(sorted(sorts)) + ", defined, hex}")
+    lines.insert(4, "use Rattle.vectors.specs.Vector.{Vector, " + ", ".join(sorted(sorts)) + ", hex}")
     return "\n".join(lines)
 
 

@@ -75,31 +75,35 @@ module _ {s : Settings} {room : List ℕ} {p : Pen} where
           ∙ sym (run-append s cs (token t ∷ ds) (sheet room p)) ∙ a .ran;
     }
 
-  -- commands that change the state alone
+  -- A command that changes the state alone: to st. What `step` says of the command is `refl` under `unfolding step`; the instances below have said it.
   module _ {p′ : Pen} where
+    by-turning : (c : Command) (st : FormattingState) → step s c (sheet room p) ≡ sheet room (leave st p) → p′ ≡ leave st p → Ran s (c ∷ []) room p room p′
+    unfolding run
+    by-turning c st f e = record { ran = f ∙ ap (sheet room) (sym e) }
+
     pub by-newline-if : (f : Flag) → p′ ≡ leave (asked (flag s f) (p .state)) p → Ran s (newline-if f ∷ []) room p room p′
-    unfolding run step
-    by-newline-if f e = record { ran = ap (sheet room) (sym e) }
+    unfolding step
+    by-newline-if f = by-turning (newline-if f) _ refl
 
     pub by-consume-newline : p′ ≡ leave (pend false (p .state)) p → Ran s (consume-newline ∷ []) room p room p′
-    unfolding run step
-    by-consume-newline e = record { ran = ap (sheet room) (sym e) }
+    unfolding step
+    by-consume-newline = by-turning consume-newline _ refl
 
     pub by-indent : p′ ≡ leave (deeper (p .state)) p → Ran s (indent ∷ []) room p room p′
-    unfolding run step
-    by-indent e = record { ran = ap (sheet room) (sym e) }
+    unfolding step
+    by-indent = by-turning indent _ refl
 
     pub by-dedent : p′ ≡ leave (shallower (p .state)) p → Ran s (dedent ∷ []) room p room p′
-    unfolding run step
-    by-dedent e = record { ran = ap (sheet room) (sym e) }
+    unfolding step
+    by-dedent = by-turning dedent _ refl
 
     pub by-enter-function-definition-statement : p′ ≡ leave (atBody true (p .state)) p → Ran s (enter-function-definition-statement ∷ []) room p room p′
-    unfolding run step
-    by-enter-function-definition-statement e = record { ran = ap (sheet room) (sym e) }
+    unfolding step
+    by-enter-function-definition-statement = by-turning enter-function-definition-statement _ refl
 
     pub by-consume-function-definition-statement : p′ ≡ leave (atBody false (p .state)) p → Ran s (consume-function-definition-statement ∷ []) room p room p′
-    unfolding run step
-    by-consume-function-definition-statement e = record { ran = ap (sheet room) (sym e) }
+    unfolding step
+    by-consume-function-definition-statement = by-turning consume-function-definition-statement _ refl
 
 -- an i32 with its sign, and without
 module _ {s : Settings} {room room′ : List ℕ} {p p′ : Pen} (bits : ℕ) where
@@ -197,8 +201,7 @@ module _ {on : Bool} {room : List ℕ} {p : Pen} where
   spaced e w = rw e w
 
   pub unspaced : on ≡ false → Wrote (cond on (bytes " ") []) room p room p
-  unfolding lay
-  unspaced e = rw e (record { wrote = refl })
+  unspaced e = rw e wrote-nothing
 
 module _ {w : Whitespace} {room : List ℕ} {p : Pen} where
   pub white-none : w ≡ White.None → Whitened w room p room p

@@ -1,3 +1,4 @@
 pub mod Lay
 pub mod Chain
+pub mod Climbs
 pub mod Written

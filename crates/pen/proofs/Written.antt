@@ -3,11 +3,10 @@
 use mathlib.Core.Path.{_≡_, refl, sym, ap, _∙_, subst}
 use mathlib.Core.Bool.{Bool, true, false, cond}
 use mathlib.Core.List.{List, [], _∷_, _++_}
-use Prim.Native.Nat.{ℕ, suc, _+_, _-_, _≤_}
+use Prim.Native.Nat.{ℕ, suc, _+_, _-_, _≤_, min}
 use native.Mathlib.Omega.{arith}
 use lib.ListN.{length, length-append}
 use lib.Seq.{sets}
-use borrow.Author.Tests.{le-leb}
 use Rattle.words.specs.Bytes.{bytes}
 use Rattle.room.proofs.Laid.{laid-fits, length-laid}
 use Rattle.room.proofs.Fit.{sets-append}
@@ -24,7 +23,8 @@ use Rattle.pen.specs.declared.Pen.{Pen}
 use Rattle.pen.specs.Sheet.{Sheet, last-place, last-level, leave, lay}
 use Rattle.pen.specs.Run.{stateOf, turned, spaceWhere, line, whiten, step, run}
 use Rattle.pen.specs.Promise.{sheet, Ran}
-use Rattle.pen.specs.Climbs.{climb, climbs}
+use Rattle.pen.proofs.Climbs.{climb, climbs}
+use Rattle.pen.proofs.Lay.{at-level}
 
 -- no command changes the room's length
 
@@ -83,7 +83,9 @@ stay st p = let e : p .at ≡ p .at + 0 = omega arith in ap (λ (a : ℕ). recor
 lay-pen : (bs : List ℕ) (x : Sheet) → x .pen .at + length bs ≤ last-place → lay bs x .pen ≡ behind (length bs) (stateOf x) (x .pen)
 unfolding lay
 lay-pen [] x h = stay (stateOf x) (x .pen)
-lay-pen (b ∷ bs) x h = rw (le-leb (x .pen .at + suc (length bs)) last-place h) refl
+lay-pen (b ∷ bs) x h =
+    let e : min (x .pen .at + suc (length bs)) last-place ≡ x .pen .at + suc (length bs) = omega arith in
+    ap (λ (a : ℕ). record { at = a; next = x .pen .next; state = stateOf x }) e
 
 -- the pen behind a command: as far on as its bytes are long, in the definition's state
 
@@ -133,7 +135,7 @@ step-pen s flush-space x h k =
     (λ e. lay-pen (bytes " ") x (subst (λ (b : Bool). x .pen .at + length (cond b (bytes " ") []) ≤ last-place) e h))
 step-pen s consume-newline x h k = stay _ (x .pen)
 step-pen s indent x h k =
-    ap (λ (n : ℕ). leave (atLevel n (stateOf x)) (x .pen)) (rw (le-leb (stateOf x .«indentation_level» + 1) last-level k) refl)
+    at-level (x .pen) (min (stateOf x .«indentation_level» + 1) last-level) (stateOf x .«indentation_level» + 1) (omega arith)
     ∙ stay (atLevel (stateOf x .«indentation_level» + 1) (stateOf x)) (x .pen)
 step-pen s dedent x h k = stay _ (x .pen)
 step-pen s enter-function-definition-statement x h k = stay _ (x .pen)

@@ -1,4 +1,3 @@
 pub mod Sheet
 pub mod Run
 pub mod Promise
-pub mod Climbs

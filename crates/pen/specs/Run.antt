@@ -2,7 +2,7 @@
 -- numbers go. That this is the definition's text is proved in proofs/Written.antt. Assumes nothing.
 use mathlib.Core.Bool.{Bool, true, false, _&&_, cond}
 use mathlib.Core.List.{List, [], _∷_}
-use Prim.Native.Nat.{_+_, _-_}
+use Prim.Native.Nat.{_+_, _-_, min}
 use Rattle.words.specs.Bytes.{bytes}
 use Rattle.settings.specs.declared.Settings.{Settings}
 use Rattle.settings.specs.declared.FormattingState.{FormattingState}
@@ -13,7 +13,7 @@ use Rattle.text.specs.Asked.{flag, gap}
 use Rattle.text.specs.Command.{Command}
 use Rattle.text.specs.Command.Command.{token, space, space-if, space-at-body-if, newline-if, whitespace, write-indent, write-line, flush-line, flush-space, consume-newline, indent, dedent, enter-function-definition-statement, consume-function-definition-statement}
 use Rattle.text.specs.Pen.{pend, atLevel, atBody, indentOf}
-use Rattle.pen.specs.Sheet.{Sheet, last-level, upTo, leave, lay}
+use Rattle.pen.specs.Sheet.{Sheet, last-level, leave, lay}
 
 abbrev pub stateOf : Sheet → FormattingState
 stateOf x = x .pen .state
@@ -24,7 +24,7 @@ turned st x = record { room = x .room; pen = leave st (x .pen) }
 
 -- one level more, as far as 16 bits go, and one less
 abbrev pub deeper : FormattingState → FormattingState
-deeper st = atLevel (upTo last-level (st .«indentation_level» + 1)) st
+deeper st = atLevel (min (st .«indentation_level» + 1) last-level) st
 
 abbrev pub shallower : FormattingState → FormattingState
 shallower st = atLevel (st .«indentation_level» - 1) st

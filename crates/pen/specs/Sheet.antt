@@ -1,9 +1,7 @@
 -- A sheet: a room and the pen on it, and what it is to lay bytes on it. Assumes nothing.
-use mathlib.Core.Bool.{cond}
 use mathlib.Core.List.{List, [], _∷_}
-use Prim.Native.Nat.{ℕ, _+_, _-_, _^_}
+use Prim.Native.Nat.{ℕ, _+_, _-_, _^_, min}
 use lib.ListN.{length}
-use lib.Dec.{leb}
 use Rattle.room.specs.Room.{laid}
 use Rattle.settings.specs.declared.FormattingState.{FormattingState}
 use Rattle.pen.specs.declared.Pen.{Pen}
@@ -19,12 +17,9 @@ last-place = 2 ^ 32 - 1
 abbrev pub last-level : ℕ
 last-level = 2 ^ 16 - 1
 
-abbrev pub upTo : ℕ → ℕ → ℕ
-upTo last n = cond (leb n last) n last
-
 -- n bytes on
 abbrev pub forward : ℕ → Pen → Pen
-forward n p = record { at = upTo last-place (p .at + n); next = p .next; state = p .state }
+forward n p = record { at = min (p .at + n) last-place; next = p .next; state = p .state }
 
 -- with another state
 abbrev pub leave : FormattingState → Pen → Pen

@@ -1,17 +1,17 @@
 // What the leaf writers need besides the room: the place behind a token, a number with its suffix, a point in a text.
 ghost use mathlib.Core.Path.{_≡_};
 ghost use mathlib.Core.List.{_++_};
-ghost use Prim.Native.Nat.{_+_, _*_};
+ghost use Prim.Native.Nat.{_+_, _*_, min};
 ghost use Rattle.room.specs.Room.{laid};
 ghost use Rattle.decimal.specs.Decimal.{decimal};
 ghost use Rattle.text.specs.Token.{has, point};
-ghost use Rattle.pen.specs.Sheet.{upTo, last-place};
+ghost use Rattle.pen.specs.Sheet.{last-place};
 
 const LAST_PLACE: u32 = 4294967295;
 
 // n bytes on. The place stops at the last of 32 bits, which no text of ours reaches.
 pub fn advanced(at: u32, n: usize) -> u32
-    ensures { λ r. ⌜ r ≡ upTo last-place (at + n) ⌝ }
+    ensures { λ r. ⌜ r ≡ min (at + n) last-place ⌝ }
 {
     let left = LAST_PLACE - at;
     if n <= left as usize {

@@ -5,11 +5,11 @@ use mathlib.Core.Logic.{⊎-elim}
 use Prim.Native.Nat.{ℕ, zero, suc, _+_, _-_, _<_, _≤_}
 use native.Mathlib.Omega.{arith}
 use native.Mathlib.Nat.{eq-zero-or-pos, add-zero, zero-add}
-use borrow.Author.Tests.{le-ltb}
 use lib.Dec.{eqb, eqb·suc-suc, eqb·suc-zero}
 use Rattle.text.specs.Text.{single-item}
 use lib.ListN.{drop}
-use Rattle.records.specs.Record.{recordAt, recordCount, no-record}
+use Rattle.records.specs.Record.{recordAt, recordCount}
+use Rattle.records.proofs.Laws.{record-behind}
 use Rattle.text.specs.Tree.{Statements}
 use Rattle.text.specs.Reading.{Read, Item, Reader, first, items, itemOf, from, itemAt, applied, _and_, give, several, exprOf, typeOf, baseOf, arrayOf, dimensionOf, fieldOf, identifierOf, qualifierOf, specOf, layoutIdOf, fullTypeOf, prototypeOf, parameterOf, declaratorsOf, singleOf, declaratorOf, initializerOf, blockOf, declarationOf, compoundOf, statementOf, conditionOf, forInitOf, externalOf, unitOf, statement, made}
 
@@ -20,10 +20,6 @@ module _ (rs ns : List ℕ) where
   from-at : (n i : ℕ) → recordCount rs - i ≡ n → from rs ns i ≡ items n rs ns i
   unfolding from
   from-at n i e = rw e refl
-
-  record-out : (i : ℕ) → recordCount rs ≤ i → recordAt rs i ≡ no-record
-  unfolding recordAt
-  record-out i h = rw (le-ltb i (recordCount rs) h) refl
 
   from-in : (i : ℕ) → i < recordCount rs → from rs ns i ≡ itemOf ns (recordAt rs i) (from rs ns (i + 1)) ∷ from rs ns (i + 1)
   unfolding items
@@ -39,7 +35,7 @@ module _ (rs ns : List ℕ) where
   -- inside and outside
   pub item-at : (i : ℕ) → itemAt rs ns i ≡ itemOf ns (recordAt rs i) (from rs ns (i + 1))
   unfolding first itemOf exprOf typeOf baseOf arrayOf dimensionOf fieldOf identifierOf qualifierOf specOf layoutIdOf fullTypeOf prototypeOf parameterOf declaratorsOf singleOf declaratorOf initializerOf blockOf declarationOf compoundOf statementOf conditionOf forInitOf externalOf unitOf
-  item-at i = below i (recordCount rs) (λ h. rw (from-in i h) refl) (λ h. rw (from-out i h, record-out i h) refl)
+  item-at i = below i (recordCount rs) (λ h. rw (from-in i h) refl) (λ h. rw (from-out i h, record-behind rs i h) refl)
 
   pub from-drop : (k i : ℕ) → drop k (from rs ns i) ≡ from rs ns (i + k)
   from-drop zero i = rw (add-zero i) refl

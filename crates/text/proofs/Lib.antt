@@ -1,4 +1,5 @@
 pub mod Computing
+pub mod Case
 pub mod Rows
 pub mod Orders
 pub mod IntText

@@ -2,13 +2,12 @@
 use Prim.Native.Nat.{ℕ, _/_, _%_}
 use Prim.Native.String.{String}
 use mathlib.Core.Path.{_≡_, refl}
-use mathlib.Core.Bool.{Bool, true, false, cond}
+use mathlib.Core.Bool.{Bool, true, false}
 use mathlib.Core.List.{List, [], _∷_, _++_, map}
 use mathlib.Core.Option.{Option, none, some}
 use Rattle.words.specs.Bytes.{bytes}
 use Rattle.settings.specs.Settings.{TIGHT, OPEN}
-use Rattle.text.specs.Whole.{unitText, exprText}
-use Rattle.text.specs.Joined.{joinedAnswer}
+use Rattle.text.proofs.Case.{Case, defined}
 use Rattle.text.proofs.Computing.{computing}
 
 -- a record: kind, variant, count, a, b
@@ -73,33 +72,22 @@ collapsing = 0 ∷ 0 ∷ 0 ∷ 0 ∷ 0 ∷ 0 ∷ 0 ∷ 0 ∷ 0 ∷ 0 ∷ 0 ∷ 0
 abbrev pub open-collapsing : List ℕ
 open-collapsing = 2 ∷ 4 ∷ 1 ∷ 1 ∷ 1 ∷ 1 ∷ 1 ∷ 1 ∷ 2 ∷ 2 ∷ 2 ∷ 2 ∷ 1 ∷ 2 ∷ 2 ∷ 1 ∷ 1 ∷ 1 ∷ 1 ∷ 1 ∷ 1 ∷ []
 
-pub record Outcome : Type 0 where
-  pub text : List ℕ
-  -- the answer to the joined question, where it is asked
-  pub joined : Option Bool
-
-pub record Row : Type 0 where
-  pub unit : Bool
-  pub settings : List ℕ
-  pub records : List ℕ
-  pub names : String
-  pub outcome : Outcome
+abbrev row : Bool → Option Bool → List ℕ → List ℕ → String → String → List Case
+row u j s rs ns t = record { is-unit = u; settings = s; records = rs; names = bytes ns; outcome = record { text = bytes t; joined = j } } ∷ []
 
 -- an expression in TIGHT and OPEN, with the answer to the joined question
-abbrev pub expr : List ℕ → String → String → String → Bool → List Row
-expr rs ns t o j =
-    record { unit = false; settings = TIGHT; records = rs; names = ns; outcome = record { text = bytes t; joined = some j } }
-    ∷ record { unit = false; settings = OPEN; records = rs; names = ns; outcome = record { text = bytes o; joined = some j } } ∷ []
+abbrev pub expr : List ℕ → String → String → String → Bool → List Case
+expr rs ns t o j = row false (some j) TIGHT rs ns t ++ row false (some j) OPEN rs ns o
 
--- a unit in one settings, and in TIGHT and OPEN
-abbrev pub unitIn : List ℕ → List ℕ → String → String → List Row
-unitIn s rs ns t = record { unit = true; settings = s; records = rs; names = ns; outcome = record { text = bytes t; joined = none } } ∷ []
+-- a unit under some settings, and in TIGHT and OPEN
+abbrev pub unitIn : List ℕ → List ℕ → String → String → List Case
+unitIn = row true none
 
-abbrev pub unit : List ℕ → String → String → String → List Row
+abbrev pub unit : List ℕ → String → String → String → List Case
 unit rs ns t o = unitIn TIGHT rs ns t ++ unitIn OPEN rs ns o
 
 -- 01, "Texts to match", in its order
-abbrev pub rows-of-01 : List Row
+abbrev pub rows-of-01 : List Case
 rows-of-01 =
     expr (minus ++ var 0 ++ negate ++ var 1) "ab" "a--b" "a - -b" true
     ++ expr (minus ++ plain 15 0 ++ var 0 ++ var 1) "ab" "a---b" "a-- - b" false
@@ -127,7 +115,7 @@ abbrev nested-structs : List ℕ
 nested-structs =
     many 80 1 ++ declared 0 ++ plain 20 0 ++ rec 23 1 1 1 1 ++ rec 26 0 1 0 0 ++ plain 20 0 ++ rec 23 0 1 0 0 ++ rec 26 0 1 0 0 ++ keyword 4 ++ named 27 0 2 ++ named 27 0 3
 
-abbrev pub our-rows : List Row
+abbrev pub our-rows : List Case
 our-rows =
     unitIn mixed (many 80 1 ++ function 0 ++ block 2 ++ plain 68 4 ++ negate ++ var 1 ++ return) "fa" "void f(){\n\t\treturn -a; return; } "
     ++ unitIn collapsing (many 80 1 ++ function 0 ++ block 1 ++ block 1 ++ return) "f" "void f(){return;}"
@@ -136,20 +124,10 @@ our-rows =
     ++ unitIn open-collapsing if-else "fa" "void f() {\n    if (a) \n        return; else \n        return;\n}\n"
     ++ unit nested-structs "sSxt" "struct S{struct {float x;} t;} s;" "struct S {\n    struct  {\n        float x;\n    } t;\n} s;"
 
-abbrev pub rows : List Row
+abbrev pub rows : List Case
 rows = rows-of-01 ++ our-rows
 
-abbrev answered : Option Bool → Bool → Option Bool
-answered none b = none
-answered (some asked) b = some b
-
-abbrev pub printed : Row → Outcome
-printed r = record {
-  text = cond (r .unit) (unitText (r .settings) (r .records) (bytes (r .names))) (exprText (r .settings) (r .records) (bytes (r .names)));
-  joined = answered (r .outcome .joined) (joinedAnswer (r .records) (bytes (r .names)));
-}
-
 -- the definition gives each row's outcome
-pub match : map printed rows ≡ map (λ r. r .outcome) rows
-unfolding computing
+pub match : map defined rows ≡ map (λ c. c .outcome) rows
+unfolding computing defined
 match = refl

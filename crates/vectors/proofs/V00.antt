@@ -1,7 +1,8 @@
 -- Texts of the Rust module. Made by tools/vectors.py. Assumes nothing.
 use mathlib.Core.Path.{refl}
+use Rattle.text.proofs.Case.{defined}
 use Rattle.text.proofs.Computing.{computing}
-use Rattle.vectors.specs.Vector.{Vector, expr, defined, hex}
+use Rattle.vectors.specs.Vector.{Vector, expr, hex}
 
 pub v0 : Vector (expr "000000000000000000000000000000000000000000"
     "020000008a97270d00000000"

@@ -1,7 +1,8 @@
 -- Texts of the Rust module. Made by tools/vectors.py. Assumes nothing.
 use mathlib.Core.Path.{refl}
+use Rattle.text.proofs.Case.{defined}
 use Rattle.text.proofs.Computing.{computing}
-use Rattle.vectors.specs.Vector.{Vector, expr, joined-expr, unit, defined, hex}
+use Rattle.vectors.specs.Vector.{Vector, expr, joined-expr, unit, hex}
 
 pub v25 : Vector (expr "011001010100010100000200000002010001010001"
     "040100000000000000000000"

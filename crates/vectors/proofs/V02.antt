@@ -1,7 +1,8 @@
 -- Texts of the Rust module. Made by tools/vectors.py. Assumes nothing.
 use mathlib.Core.Path.{refl}
+use Rattle.text.proofs.Case.{defined}
 use Rattle.text.proofs.Computing.{computing}
-use Rattle.vectors.specs.Vector.{Vector, expr, joined-expr, unit, defined, hex}
+use Rattle.vectors.specs.Vector.{Vector, expr, joined-expr, unit, hex}
 
 pub v50 : Vector (expr "010301000101000000020201000002010100010101"
     "0703000000000000000000000a050000000000000000000002000000ffffffff00000000030000005e0b000000000000"

@@ -1,7 +1,8 @@
 -- Texts of the Rust module. Made by tools/vectors.py. Assumes nothing.
 use mathlib.Core.Path.{refl}
+use Rattle.text.proofs.Case.{defined}
 use Rattle.text.proofs.Computing.{computing}
-use Rattle.vectors.specs.Vector.{Vector, expr, joined-expr, unit, defined, hex}
+use Rattle.vectors.specs.Vector.{Vector, expr, joined-expr, unit, hex}
 
 pub v75 : Vector (expr "010500000101010101000101000200000000010100"
     "0d00000000000000070000000e00000000000000000000000b00000000000000000000000a04000000000000000000000600000007000000020000000600000009000000010000000d0000000300000003000000020000000800000000000000"

@@ -11,8 +11,7 @@ use lib.Dec.{ltb}
 use Rattle.words.specs.Bytes.{bytes}
 use Rattle.records.specs.Record.{recordCount}
 use Rattle.text.specs.Reading.{itemAt}
-use Rattle.text.specs.Whole.{unitText, exprText}
-use Rattle.text.specs.Joined.{joinedAnswer}
+use Rattle.text.proofs.Case.{Case, defined}
 
 -- the bytes of a text of pairs of hexadecimal digits
 abbrev digit : ℕ → ℕ
@@ -26,18 +25,6 @@ pairs (c ∷ (d ∷ s)) = (16 * digit c + digit d) ∷ pairs s
 unfoldable pub hex : String → List ℕ
 hex s = pairs (bytes s)
 
-pub record Outcome : Type 0 where
-  pub text : List ℕ
-  pub joined : Option Bool
-
--- one answer of the oracle: what was asked, by what bytes, and the outcome
-pub record Case : Type 0 where
-  pub is-unit : Bool
-  pub settings : List ℕ
-  pub records : List ℕ
-  pub names : List ℕ
-  pub outcome : Outcome
-
 abbrev case : Bool → Option Bool → String → String → String → String → Case
 case u j s r n t = record { is-unit = u; settings = hex s; records = hex r; names = bytes n; outcome = record { text = bytes t; joined = j } }
 
@@ -50,13 +37,6 @@ expr = case false (some false)
 
 abbrev pub joined-expr : String → String → String → String → Case
 joined-expr = case false (some true)
-
--- what the definition says of it
-unfoldable pub defined : Case → Outcome
-defined c = record {
-  text = cond (c .is-unit) (unitText (c .settings) (c .records) (c .names)) (exprText (c .settings) (c .records) (c .names));
-  joined = cond (c .is-unit) none (some (joinedAnswer (c .records) (c .names)));
-}
 
 abbrev pub sizeRead : Case → ℕ
 sizeRead c = cond (c .is-unit) (itemAt (c .records) (c .names) 0 .unit .size) (itemAt (c .records) (c .names) 0 .expr .size)

@@ -1,7 +1,7 @@
 -- The form of a float's text: what each test of it decides. Assumes nothing.
 use mathlib.Core.Path.{_≡_, refl, _∙_, ap}
 use mathlib.Core.List.{List, [], _∷_}
-use mathlib.Core.Bool.{Bool, true, false, not, _&&_, cond}
+use mathlib.Core.Bool.{Bool, true, false, not, _&&_, cond, and-false}
 use Prim.Native.Nat.{ℕ, zero, suc, _≤_, _<_, _+_, _-_}
 use Prim.Native.Char.{code}
 use native.Mathlib.Numerals.{add-one}
@@ -12,7 +12,6 @@ use lib.Seq.{drop-cons, getD-drop}
 use lib.Dec.{eqb}
 use borrow.Author.Tests.{le-leb, lt-leb, eq-eqb, ne-eqb}
 use Rattle.words.specs.Form.{digit, digits, behindDigits, wholePart, fraction, nothingOrFraction, floatForm}
-use Rattle.words.proofs.Laws.{and-false}
 
 pub digits-length : (s : List ℕ) → length (digits s) ≤ length s
 unfolding digits

@@ -1,7 +1,7 @@
 -- What a loop over the bytes of a text knows: of `all`, of `same`, and of the digits at the front. Assumes nothing.
 use mathlib.Core.Path.{_≡_, refl, sym, _∙_, ap}
 use mathlib.Core.List.{List, [], _∷_}
-use mathlib.Core.Bool.{Bool, true, false, _&&_, cond}
+use mathlib.Core.Bool.{Bool, true, false, _&&_, cond, and-assoc, and-true, and-false}
 use Prim.Native.Nat.{ℕ, suc, _≤_, _<_, _+_}
 use native.Mathlib.Numerals.{add-one}
 use lib.ListN.{length, getD, drop, drop-of-length-le}
@@ -10,23 +10,11 @@ use lib.Dec.{eqb}
 use borrow.Author.Tests.{eq-eqb, ne-eqb}
 use Rattle.words.specs.Form.{all, same, digit, digits}
 
-and-assoc : (a b c : Bool) → a && (b && c) ≡ (a && b) && c
-and-assoc true b c = refl
-and-assoc false b c = refl
-
-and-true : (a : Bool) → a && true ≡ a
-and-true true = refl
-and-true false = refl
-
-pub and-false : (a : Bool) → a && false ≡ false
-and-false true = refl
-and-false false = refl
-
 -- `all`, folded without a branch: ok is what was found up to i
 module _ (f : ℕ → Bool) (s : List ℕ) (ok : Bool) {i : ℕ} {w : Bool} where
   pub all-more : {b : Bool} → i < length s → w ≡ ok && all f (drop i s) → b ≡ f (getD s i 0) → w ≡ (ok && b) && all f (drop (i + 1) s)
   unfolding all
-  all-more {b} h e g = e ∙ rw (add-one, drop-cons s i 0 h) (ap (λ (z : Bool). ok && (z && all f (drop (suc i) s))) (sym g) ∙ and-assoc ok b (all f (drop (suc i) s)))
+  all-more {b} h e g = e ∙ rw (add-one, drop-cons s i 0 h) (ap (λ (z : Bool). ok && (z && all f (drop (suc i) s))) (sym g) ∙ sym (and-assoc ok b (all f (drop (suc i) s))))
 
   pub all-done : length s ≤ i → w ≡ ok && all f (drop i s) → w ≡ ok
   unfolding all

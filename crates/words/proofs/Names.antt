@@ -1,13 +1,12 @@
 -- The form of a name: what each test of it decides. Assumes nothing.
 use mathlib.Core.Path.{_≡_}
-use mathlib.Core.Bool.{true, false, not}
+use mathlib.Core.Bool.{true, false, not, and-false}
 use mathlib.Core.List.{List}
 use Prim.Native.Nat.{ℕ, _≤_, _<_}
 use lib.ListN.{length, getD}
 use borrow.Author.Tests.{le-leb, lt-leb}
 use Rattle.words.specs.Table.{fixedWords}
 use Rattle.words.specs.Form.{longest-name, digit, nameByte, all, oneOf, nameForm}
-use Rattle.words.proofs.Laws.{and-false}
 
 module _ (s : List ℕ) where
   pub name-empty : length s ≡ 0 → nameForm s ≡ false

@@ -1,7 +1,7 @@
 -- The rule of the table: a computed test of all its words, and the laws that make of a test what holds at each row. The fixed words have the form of words;
 -- the texts of a section that passes `different` are different. (That no text is longer than the widest is `text-fits` of Places.) Assumes nothing.
 use mathlib.Core.Path.{_≡_, refl, sym, _∙_, ap, subst}
-use mathlib.Core.Bool.{Bool, true, false, not, _&&_}
+use mathlib.Core.Bool.{Bool, true, false, not, _&&_, and-false}
 use mathlib.Core.List.{List, [], _∷_}
 use Prim.Native.Nat.{ℕ, zero, suc, _+_, _<_}
 use Prim.Native.String.{String}
@@ -13,7 +13,6 @@ use Rattle.words.specs.Bytes.{bytes}
 use Rattle.words.specs.Word.{wordText, qualifierWords, jumpWords, boolWords, loneWords, otherWords}
 use Rattle.words.specs.Table.{typeKeywords, fixedWords, texts, widest, textAt}
 use Rattle.words.specs.Form.{between, digit, letter, nameByte, all, same, oneOf}
-use Rattle.words.proofs.Laws.{and-false}
 use Rattle.words.proofs.Places.{section-text}
 use Rattle.words.proofs.Search.{everyWord, none-of}
 use Rattle.words.proofs.Tests.{both-left, both-right, either-left, either-right}

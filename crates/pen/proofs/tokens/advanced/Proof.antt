@@ -1,4 +1,3 @@
-use Rattle.pen.proofs.Lay.{place-behind, place-stops}
 -- `advanced` meets its contract: the sum fits or the place stops. Assumes nothing.
 use native.Mathlib.Omega.{arith}
 use borrow.Author.Needs.{needs}
@@ -18,10 +17,10 @@ add-result : tie.Need-add-result
 add-result c = search needs
 
 returns : tie.Need-returns
-returns c = place-behind _ _ (omega arith) (c .if1 .taken)
+returns c = omega arith
 
 returns-2 : tie.Need-returns-2
-returns-2 c = place-stops _ _ (c .if1 .left)
+returns-2 c = omega arith
 
 pub advanced-spec : {M : Type 1} → statement M
 advanced-spec = tie.close (tie.spec sub-left cast-if1 cast-result add-result returns returns-2)

@@ -1,4 +1,4 @@
--- How many levels a list of commands enters. For proofs/Written.antt; no contract cites it. Assumes nothing.
+-- How many levels a list of commands enters. Assumes nothing.
 use mathlib.Core.List.{List, [], _∷_}
 use Prim.Native.Nat.{ℕ, _+_}
 use Rattle.text.specs.Command.{Command}
