@@ -11,6 +11,14 @@ use borrow.Author.Tests.{lt-ltb, le-ltb, le-leb, lt-leb, leb-true, leb-false, lt
 use Rattle.records.specs.declared.Record.{Record}
 use Rattle.records.specs.Record.{recordIn, recordCount, recordAt, no-record, part, textOf, nameAt}
 
+-- below n, or not
+pub split : {A : Type 0} (k n : ℕ) → (k < n → A) → (n ≤ k → A) → A
+split {A} k n below behind = go (ltb k n) refl
+  where
+    go : (b : Bool) → ltb k n ≡ b → A
+    go true e = below (ltb-true k n e)
+    go false e = behind (ltb-false k n e)
+
 -- 12 bytes a record: as many bytes as n records take are n records
 pub count-whole : (bs : List ℕ) (n : ℕ) → length bs ≡ 12 * n → recordCount bs ≡ n
 unfolding recordCount
@@ -54,16 +62,9 @@ module _ (bs : List ℕ) (i : ℕ) where
   unfolding recordAt
   record-behind h = simp (le-ltb i (recordCount bs) h)
 
-  either : (P : Type 0) → (i < recordCount bs → P) → (recordCount bs ≤ i → P) → P
-  either P here behind = go (ltb i (recordCount bs)) refl
-    where
-      go : (b : Bool) → ltb i (recordCount bs) ≡ b → P
-      go true e = here (ltb-true _ _ e)
-      go false e = behind (ltb-false _ _ e)
-
   -- no kind is 0: a kind other than 0 says that a record stands there
   pub kind-stands : (recordAt bs i .kind ≡ 0 → ⊥) → i < recordCount bs
-  kind-stands n = either (i < recordCount bs) (λ h. h) (λ h. absurd (n (ap (λ (r : Record). r .kind) (record-behind h))))
+  kind-stands n = split i (recordCount bs) (λ h. h) (λ h. absurd (n (ap (λ (r : Record). r .kind) (record-behind h))))
 
 -- the part of the names, where it ends within them and where it does not
 module _ (names : List ℕ) (a b : ℕ) where
@@ -93,7 +94,7 @@ pub record Small (r : Record) : Type 0 where
 pub fields-small : (bs : List ℕ) (i : ℕ) → ((k : ℕ) → getD bs k 0 < 256) → Small (recordAt bs i)
 unfolding recordIn
 fields-small bs i byte =
-    either bs i (Small (recordAt bs i)) (λ h. rw (record-here bs i h) (here (12 * i)))
+    split i (recordCount bs) (λ h. rw (record-here bs i h) (here (12 * i)))
     (λ h. rw (record-behind bs i h) (record { kind = omega arith; variant = omega arith; count = omega arith; a = omega arith; b = omega arith }))
   where
     two : (p : ℕ) → getD bs p 0 + 256 * getD bs (p + 1) 0 < 2 ^ 16

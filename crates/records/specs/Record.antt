@@ -1,9 +1,9 @@
 -- The fields of the records: 12 bytes each, little-endian, no header (01, "Tree records"). Assumes nothing.
-use mathlib.Core.Bool.{cond}
+use mathlib.Core.Bool.{Bool, cond}
 use mathlib.Core.List.{List, []}
-use Prim.Native.Nat.{ℕ, _+_, _*_, _/_}
+use Prim.Native.Nat.{ℕ, _+_, _*_, _/_, _%_}
 use lib.ListN.{length, getD, take, drop}
-use lib.Dec.{leb, ltb}
+use lib.Dec.{leb, ltb, eqb}
 use Rattle.records.specs.declared.Record.{Record}
 
 abbrev pub recordSize : ℕ
@@ -50,3 +50,13 @@ textOf names r = part names (r .a) (r .b)
 -- 01, "Calls": T of the record at any index, whatever its kind; nothing where no whole record stands (its offset and length are 0)
 abbrev pub nameAt : List ℕ → List ℕ → ℕ → List ℕ
 nameAt records names i = textOf names (recordAt records i)
+
+-- +1, +2 and +4 in a variant
+abbrev pub bit0 : ℕ → Bool
+bit0 v = eqb (v % 2) 1
+
+abbrev pub bit1 : ℕ → Bool
+bit1 v = eqb (v / 2 % 2) 1
+
+abbrev pub bit2 : ℕ → Bool
+bit2 v = eqb (v / 4 % 2) 1

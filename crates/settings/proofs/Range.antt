@@ -1,7 +1,7 @@
 -- The walk over bytes and their limits, for any list of limits. Assumes nothing.
 use mathlib.Core.Path.{_≡_, refl, _∙_, ap}
 use mathlib.Core.List.{List, [], _∷_}
-use mathlib.Core.Bool.{Bool, true, false, _&&_, and-false}
+use mathlib.Core.Bool.{true, false, _&&_, and-false, and-eq-true-iff}
 use Prim.Native.Nat.{ℕ, suc, _≤_, _<_, _+_}
 use native.Mathlib.Numerals.{add-one}
 use lib.ListN.{length, getD, drop, drop-of-length-le}
@@ -9,14 +9,6 @@ use lib.Seq.{drop-cons}
 use lib.Dec.{leb}
 use borrow.Author.Tests.{le-leb, lt-leb}
 use Rattle.settings.specs.Settings.{inRange}
-
-pub and-left : (a b : Bool) → a && b ≡ true → a ≡ true
-and-left true b e = refl
-and-left false b e = e
-
-pub and-right : (a b : Bool) → a && b ≡ true → b ≡ true
-and-right true b e = e
-and-right false b e = cc
 
 -- another number of bytes than of limits is out of range
 pub range-other-length : (bs ms : List ℕ) → (length bs ≡ length ms → ⊥) → inRange bs ms ≡ false
@@ -31,7 +23,7 @@ unfolding inRange
 range-length [] [] e = refl
 range-length [] (m ∷ ms) e = cc
 range-length (b ∷ bs) [] e = cc
-range-length (b ∷ bs) (m ∷ ms) e = ap suc (range-length bs ms (and-right (leb b m) (inRange bs ms) e))
+range-length (b ∷ bs) (m ∷ ms) e = ap suc (range-length bs ms (and-eq-true-iff (leb b m) (inRange bs ms) .0 e .1))
 
 -- what is left at i decides the whole: go on, refuse, or accept
 module _ (bs ms : List ℕ) (i : ℕ) where

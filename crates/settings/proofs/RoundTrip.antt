@@ -1,7 +1,7 @@
 -- Bytes in range come back from the settings that they say, and settings with a count of at most 16 from their bytes. Assumes nothing.
 use mathlib.Core.Path.{_≡_, refl}
 use mathlib.Core.List.{List, [], _∷_}
-use mathlib.Core.Bool.{Bool, true, false, cond}
+use mathlib.Core.Bool.{Bool, true, false, cond, and-eq-true-iff}
 use Prim.Native.Nat.{ℕ, zero, suc, _≤_, _<_}
 use native.Mathlib.Omega.{arith}
 use lib.ListN.{length, getD, drop, length-drop}
@@ -15,7 +15,7 @@ use Rattle.settings.specs.declared.Whitespace.the-variants as White
 use Rattle.settings.specs.declared.Settings.{Settings}
 use Rattle.settings.specs.declared.SettingsRead.the-variants as Answer
 use Rattle.settings.specs.Settings.{limits, inRange, styleOf, flagOf, whitespaceOf, settingsOf, readSettings, styleByte, flagByte, whitespaceByte, settingsBytes, TIGHT, OPEN}
-use Rattle.settings.proofs.Range.{and-left, and-right, range-length}
+use Rattle.settings.proofs.Range.{range-length}
 
 -- a byte that was read and written again, by its limit: 1 is a flag, 2 a Whitespace, any other a number
 again : ℕ → ℕ → ℕ
@@ -54,8 +54,8 @@ all-same (m ∷ ms) k bs e =
     let cut = drop-cons bs k 0 here in
     let both = rw cut at e in
     rw cut (simp (
-      again-same m (getD bs k 0) (leb-true _ _ (and-left (leb (getD bs k 0) m) (inRange (drop (suc k) bs) ms) both)),
-      all-same ms (suc k) bs (and-right (leb (getD bs k 0) m) (inRange (drop (suc k) bs) ms) both),
+      again-same m (getD bs k 0) (leb-true _ _ (and-eq-true-iff (leb (getD bs k 0) m) (inRange (drop (suc k) bs) ms) .0 both .0)),
+      all-same ms (suc k) bs (and-eq-true-iff (leb (getD bs k 0) m) (inRange (drop (suc k) bs) ms) .0 both .1),
     ))
 
 -- a style is written as the Whitespace of the same byte

@@ -1,27 +1,24 @@
 -- What stands at record i, from the records behind it. Assumes nothing.
 use mathlib.Core.Path.{_≡_, refl, ap, sym, _∙_}
 use mathlib.Core.List.{List, [], _∷_}
-use mathlib.Core.Logic.{⊎-elim}
 use Prim.Native.Nat.{ℕ, zero, suc, _+_, _-_, _<_, _≤_}
 use native.Mathlib.Omega.{arith}
-use native.Mathlib.Nat.{eq-zero-or-pos, add-zero, zero-add}
+use native.Mathlib.Nat.{add-zero, zero-add}
 use lib.Dec.{eqb, eqb·suc-suc, eqb·suc-zero}
 use Rattle.text.specs.Text.{single-item}
 use lib.ListN.{drop}
 use Rattle.records.specs.Record.{recordAt, recordCount}
-use Rattle.records.proofs.Laws.{record-behind}
+use Rattle.records.proofs.Laws.{split, record-behind}
 use Rattle.text.specs.Tree.{Statements}
 use Rattle.text.specs.Reading.{Read, Item, Reader, first, items, itemOf, from, itemAt, applied, _and_, give, several, exprOf, typeOf, baseOf, arrayOf, dimensionOf, fieldOf, identifierOf, qualifierOf, specOf, layoutIdOf, fullTypeOf, prototypeOf, parameterOf, declaratorsOf, singleOf, declaratorOf, initializerOf, blockOf, declarationOf, compoundOf, statementOf, conditionOf, forInitOf, externalOf, unitOf, statement, made}
-
-below : {A : Type 0} (i n : ℕ) → (i < n → A) → (n ≤ i → A) → A
-below i n f g = ⊎-elim (λ (e : n - i ≡ 0). g (omega arith)) (λ (h : 0 < n - i). f (omega arith)) (eq-zero-or-pos (n - i))
 
 module _ (rs ns : List ℕ) where
   from-at : (n i : ℕ) → recordCount rs - i ≡ n → from rs ns i ≡ items n rs ns i
   unfolding from
   from-at n i e = rw e refl
 
-  from-in : (i : ℕ) → i < recordCount rs → from rs ns i ≡ itemOf ns (recordAt rs i) (from rs ns (i + 1)) ∷ from rs ns (i + 1)
+  -- a record that stands there, before those behind it
+  pub from-in : (i : ℕ) → i < recordCount rs → from rs ns i ≡ itemOf ns (recordAt rs i) (from rs ns (i + 1)) ∷ from rs ns (i + 1)
   unfolding items
   from-in i h =
       let e : recordCount rs - i ≡ suc (recordCount rs - (i + 1)) = omega arith in
@@ -35,11 +32,11 @@ module _ (rs ns : List ℕ) where
   -- inside and outside
   pub item-at : (i : ℕ) → itemAt rs ns i ≡ itemOf ns (recordAt rs i) (from rs ns (i + 1))
   unfolding first itemOf exprOf typeOf baseOf arrayOf dimensionOf fieldOf identifierOf qualifierOf specOf layoutIdOf fullTypeOf prototypeOf parameterOf declaratorsOf singleOf declaratorOf initializerOf blockOf declarationOf compoundOf statementOf conditionOf forInitOf externalOf unitOf
-  item-at i = below i (recordCount rs) (λ h. rw (from-in i h) refl) (λ h. rw (from-out i h, record-behind rs i h) refl)
+  item-at i = split i (recordCount rs) (λ h. rw (from-in i h) refl) (λ h. rw (from-out i h, record-behind rs i h) refl)
 
   pub from-drop : (k i : ℕ) → drop k (from rs ns i) ≡ from rs ns (i + k)
   from-drop zero i = rw (add-zero i) refl
-  from-drop (suc k) i = below i (recordCount rs)
+  from-drop (suc k) i = split i (recordCount rs)
       (λ h. rw (from-in i h) (from-drop k (i + 1) ∙ ap (from rs ns) (omega arith)))
       (λ h. rw (from-out i h) (sym (from-out (i + suc k) (omega arith))))
 

@@ -3,13 +3,13 @@
 use mathlib.Core.Bool.{Bool, true, false, cond}
 use mathlib.Core.List.{List, [], _∷_}
 use mathlib.Core.Option.{Option, none, some}
-use Prim.Native.Nat.{ℕ, zero, suc, _+_, _-_, _/_, _%_}
+use Prim.Native.Nat.{ℕ, zero, suc, _+_, _-_}
 use lib.ListN.{getD, drop}
 use lib.Dec.{eqb, ltb}
 use Rattle.words.specs.Word.{StorageQualifier, PrecisionQualifier, InterpolationQualifier}
 use Rattle.words.specs.Word.StorageQualifier.{const, inout, «in», out, centroid, patch, sample, uniform, buffer, shared, coherent, volatile, restrict, readonly, writeonly, attribute, varying}
 use Rattle.records.specs.declared.Record.{Record}
-use Rattle.records.specs.Record.{recordAt, recordCount, textOf}
+use Rattle.records.specs.Record.{recordAt, recordCount, textOf, bit0, bit1, bit2}
 use Rattle.text.specs.Tree.{Identifier, UnaryOp, BinaryOp, AssignmentOp, Expr, Exprs, FunIdentifier, TypeSpecifier, TypeSpecifiers, TypeSpecifierNonArray, ArraySpecifier, ArraySpecifierDimension, StructFieldSpecifier, StructFieldSpecifiers, ArrayedIdentifier, ArrayedIdentifiers, Qualification, TypeQualifier, TypeQualifierSpec, LayoutQualifier, LayoutQualifierSpec, FullySpecifiedType, FunctionParameterDeclaration, FunctionPrototype, Initializer, Initializers, SingleDeclaration, SingleDeclarationNoType, InitDeclaratorList, Block, Declaration, Condition, ForInitStatement, JumpStatement, Statement, Statements, ExternalDeclaration, TranslationUnit}
 
 -- a tree, and how many records were read for it
@@ -247,16 +247,6 @@ precisionOf v = getD (PrecisionQualifier.highp ∷ PrecisionQualifier.mediump �
 
 abbrev pub interpolationOf : ℕ → InterpolationQualifier
 interpolationOf v = getD (InterpolationQualifier.smooth ∷ InterpolationQualifier.flat ∷ []) v InterpolationQualifier.noperspective
-
--- +1, +2 and +4 in a variant
-abbrev pub bit0 : ℕ → Bool
-bit0 v = eqb (v % 2) 1
-
-abbrev pub bit1 : ℕ → Bool
-bit1 v = eqb (v / 2 % 2) 1
-
-abbrev pub bit2 : ℕ → Bool
-bit2 v = eqb (v / 4 % 2) 1
 
 module _ (names : List ℕ) (r : Record) where
   abbrev v : ℕ
