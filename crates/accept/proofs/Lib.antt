@@ -1,0 +1,6 @@
+pub mod Faults
+pub mod Accepted
+pub mod Codes
+pub mod Rows
+pub mod Walk
+pub mod Open

@@ -1,0 +1,28 @@
+use Prim.Native.Nat.{ℕ}
+use Rattle.shapes.specs.Table.{countOf, shapeAt}
+use Rattle.accept.specs.Check.{countMissing}
+use Rattle.accept.proofs.Codes.{by-code, by-rest, missing-rest}
+use borrow.Author.Needs.{needs}
+use Rattle.accept.proofs.count_missing.Statement.{statement}
+use Rattle.accept.proofs.count_missing.Tie as tie
+
+add-cell : tie.Need-add-cell
+add-cell c = search needs
+
+cell-requires : tie.Need-cell-requires
+cell-requires c κs = search needs
+
+returns : tie.Need-returns
+unfolding shapeAt
+returns c = by-code (λ (x : ℕ). countMissing (countOf x) (c .before .before .args .n)) (c .before .cell .ensures) (c .match .keys1)
+
+returns-2 : tie.Need-returns-2
+unfolding shapeAt
+returns-2 c = by-code (λ (x : ℕ). countMissing (countOf x) (c .before .before .args .n)) (c .before .cell .ensures) (c .match .keys2)
+
+returns-3 : tie.Need-returns-3
+unfolding shapeAt
+returns-3 c = by-rest (λ (x : ℕ). countMissing (countOf x) (c .before .before .args .n)) (c .before .cell .ensures) (missing-rest _ _ (c .match .rest .0 .1) (c .match .rest .1))
+
+pub count-missing-spec : {M : Type 1} → statement M
+count-missing-spec = tie.close (tie.spec add-cell cell-requires returns returns-2 returns-3)

@@ -1,0 +1,25 @@
+use Prim.Native.Nat.{ℕ}
+use Rattle.shapes.specs.Table.{fieldsOf, shapeAt}
+use Rattle.accept.specs.Check.{fieldSet}
+use Rattle.accept.proofs.Codes.{by-code, by-rest, field-set-rest}
+use borrow.Author.Needs.{needs}
+use Rattle.accept.proofs.field_set.Statement.{statement}
+use Rattle.accept.proofs.field_set.Tie as tie
+
+cell-requires : tie.Need-cell-requires
+cell-requires c κs = search needs
+
+returns : tie.Need-returns
+unfolding shapeAt
+returns c = by-code (λ (x : ℕ). fieldSet (fieldsOf x) (c .before .before .args .a) (c .before .before .args .b)) (c .before .cell .ensures) (c .match .keys1)
+
+returns-2 : tie.Need-returns-2
+unfolding shapeAt
+returns-2 c = by-code (λ (x : ℕ). fieldSet (fieldsOf x) (c .before .before .args .a) (c .before .before .args .b)) (c .before .cell .ensures) (c .match .keys2)
+
+returns-3 : tie.Need-returns-3
+unfolding shapeAt
+returns-3 c = by-rest (λ (x : ℕ). fieldSet (fieldsOf x) (c .before .before .args .a) (c .before .before .args .b)) (c .before .cell .ensures) (field-set-rest _ _ _ (c .match .rest .0 .1) (c .match .rest .1))
+
+pub field-set-spec : {M : Type 1} → statement M
+field-set-spec = tie.close (tie.spec cell-requires returns returns-2 returns-3)

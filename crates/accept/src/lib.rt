@@ -1,0 +1,317 @@
+// The record check: whatever bytes come, they are the tree that a root asks for, or there is one numbered refusal at one place.
+// The tests of a record stand in the paper's order; what is tested goes by the table of crate shapes, which is made once and lent down.
+ghost use mathlib.Core.Path.{_≡_};
+ghost use mathlib.Core.Bool.{_&&_, cond};
+ghost use Prim.Native.Nat.{_+_, _/_, _^_, _≤_, _<_};
+ghost use lib.Dec.{eqb, leb};
+ghost use Rattle.words.specs.Table as WordTable;
+ghost use Rattle.shapes.specs.Class.{Class, takesVariant};
+ghost use Rattle.shapes.specs.Table as ShapeTable;
+ghost use Rattle.accept.specs.Check as Check;
+use records::Record;
+use shapes::rows::Shapes;
+use words::rows::Words;
+
+// The paper's refusals, in its order (specs/Refusal has their numbers). The check gives all but the first and the last.
+pub enum Refusal {
+    SettingsOutOfRange,
+    RecordsOutOfSize,
+    NamesOutOfSize,
+    RecordMissing,
+    KindNotAllowed,
+    TooDeep,
+    VariantOutOfRange,
+    CountMissing,
+    UnusedSet,
+    TextBeyond,
+    TextMisformed,
+    RecordsLeftOver,
+    RoomTooSmall,
+}
+
+// The record behind a tree, or a refusal and its place.
+pub enum Checked {
+    Next(usize),
+    Refused(Refusal, usize),
+}
+
+// The classes of the two roots, by number.
+const EXPR: u8 = 0;
+
+const UNIT: u8 = 26;
+
+// The parts that a row of the table has room for.
+const PARTS: usize = 4;
+
+const DEEPEST: usize = 200;
+
+const RECORD: usize = 12;
+
+const MOST_RECORD_BYTES: usize = 49152;
+
+const MOST_NAME_BYTES: usize = 32768;
+
+// Is the count 0 where there must be one?
+fn count_missing(t: &Shapes, row: usize, n: u16) -> bool
+    requires { ⌜ row + 8 ≤ ShapeTable.firstClassRow ⌝ }
+    ensures { λ r. ⌜ r ≡ Check.countMissing (ShapeTable.shapeAt (now (t .entry)) row .count) n ⌝ }
+{
+    match shapes::cell(t, row + 1) {
+        // unused
+        0 => false,
+        // any
+        1 => false,
+        // positive
+        _ => n == 0,
+    }
+}
+
+// Is the count not 0, and not used?
+fn count_set(t: &Shapes, row: usize, n: u16) -> bool
+    requires { ⌜ row + 8 ≤ ShapeTable.firstClassRow ⌝ }
+    ensures { λ r. ⌜ r ≡ Check.countSet (ShapeTable.shapeAt (now (t .entry)) row .count) n ⌝ }
+{
+    match shapes::cell(t, row + 1) {
+        // unused
+        0 => n != 0,
+        _ => false,
+    }
+}
+
+// Is a or b not 0, and not used?
+fn field_set(t: &Shapes, row: usize, a: u32, b: u32) -> bool
+    requires { ⌜ row + 8 ≤ ShapeTable.firstClassRow ⌝ }
+    ensures { λ r. ⌜ r ≡ Check.fieldSet (ShapeTable.shapeAt (now (t .entry)) row .fields) a b ⌝ }
+{
+    match shapes::cell(t, row) {
+        // empty
+        0 => (a != 0) | (b != 0),
+        // integer
+        1 => b != 0,
+        _ => false,
+    }
+}
+
+// Does a text end beyond the names? The sum of two 32 bits is taken in 64.
+fn text_beyond(t: &Shapes, row: usize, names: &[u8], a: u32, b: u32) -> bool
+    requires { ⌜ row + 8 ≤ ShapeTable.firstClassRow ⌝ }
+    ensures { λ r. ⌜ r ≡ Check.textBeyond (now (names .entry)) (ShapeTable.shapeAt (now (t .entry)) row .fields) a b ⌝ }
+{
+    match shapes::cell(t, row) {
+        // empty
+        0 => false,
+        // integer
+        1 => false,
+        _ => names.len() < (a as usize) + (b as usize),
+    }
+}
+
+// Is a text not in its form?
+fn text_misformed(t: &Shapes, words: &Words, row: usize, text: &[u8]) -> bool
+    requires { ⌜ (row + 8 ≤ ShapeTable.firstClassRow) × (now words ≡ WordTable.table) ⌝ }
+    ensures { λ r. ⌜ r ≡ Check.textMisformed (ShapeTable.shapeAt (now (t .entry)) row .fields) (now (text .entry)) ⌝ }
+{
+    match shapes::cell(t, row) {
+        // empty
+        0 => false,
+        // integer
+        1 => false,
+        // name
+        2 => !words::name_form(words, text),
+        // float
+        _ => !words::float_form(text),
+    }
+}
+
+// What record i holds, where it must have the shape of this row.
+fn contents(t: &Shapes, words: &Words, names: &[u8], i: usize, row: usize, r: Record) -> Checked
+    requires { ⌜ (i + 1 < 2 ^ 64) × (row + 8 ≤ ShapeTable.firstClassRow) × (now words ≡ WordTable.table) ⌝ }
+    ensures { λ o. ⌜ o ≡ Check.judged i (Check.first (Check.contentFaults (now (names .entry)) (ShapeTable.shapeAt (now (t .entry)) row) r)) ⌝ }
+{
+    if count_missing(t, row, r.count) {
+        return Checked::Refused(Refusal::CountMissing, i);
+    }
+    if count_set(t, row, r.count) | field_set(t, row, r.a, r.b) {
+        return Checked::Refused(Refusal::UnusedSet, i);
+    }
+    if text_beyond(t, row, names, r.a, r.b) {
+        return Checked::Refused(Refusal::TextBeyond, i);
+    }
+    if text_misformed(t, words, row, records::part_of(names, r.a, r.b)) {
+        return Checked::Refused(Refusal::TextMisformed, i);
+    }
+    Checked::Next(i + 1)
+}
+
+// Is v one of the variants that class c takes, and of those that kind k has?
+fn variant_fits(t: &Shapes, c: u8, k: u8, v: u8) -> bool
+    ensures { λ r. ⌜ r ≡ takesVariant (ShapeTable.allowedAt (now (t .entry)) c) v && leb v (ShapeTable.lastAt (now (t .entry)) k) ⌝ }
+{
+    shapes::takes_variant(t, c, v) & (v <= shapes::last_variant(t, k))
+}
+
+// Record i by itself, where class c is asked for and `left` levels are left.
+fn alone(
+    t: &Shapes,
+    words: &Words,
+    records: &[u8],
+    names: &[u8],
+    i: usize,
+    c: u8,
+    left: usize,
+) -> Checked
+    requires { ⌜ (ShapeTable.Shaped (now t)) × (now words ≡ WordTable.table) ⌝ }
+    ensures { λ r. ⌜ r ≡ Check.alone (now (records .entry)) (now (names .entry)) left (ShapeTable.classOf c) i ⌝ }
+{
+    if !records::stands(records, i) {
+        return Checked::Refused(Refusal::RecordMissing, i);
+    }
+    let r = records::record_at(records, i);
+    if !shapes::takes_kind(t, c, r.kind) {
+        return Checked::Refused(Refusal::KindNotAllowed, i);
+    }
+    if left == 0 {
+        return Checked::Refused(Refusal::TooDeep, i);
+    }
+    if !variant_fits(t, c, r.kind, r.variant) {
+        return Checked::Refused(Refusal::VariantOutOfRange, i);
+    }
+    contents(t, words, names, i, shapes::row_of(t, r.kind, r.variant), r)
+}
+
+// How many children a part of a row stands for, in a record that counts n.
+fn times(part: u8, n: u16) -> usize
+    ensures { λ r. ⌜ r ≡ cond (eqb (part / 32) 1) 1 n ⌝ }
+{
+    if part / 32 == 1 {
+        return 1;
+    }
+    n as usize
+}
+
+// The tree whose root is record i.
+fn node(
+    t: &Shapes,
+    words: &Words,
+    records: &[u8],
+    names: &[u8],
+    i: usize,
+    c: u8,
+    left: usize,
+) -> Checked
+    requires { ⌜ (ShapeTable.Shaped (now t)) × (now words ≡ WordTable.table) ⌝ }
+    ensures { λ r. ⌜ r ≡ Check.node (now (records .entry)) (now (names .entry)) left (ShapeTable.classOf c) i ⌝ }
+{
+    let mut at = i;
+    match alone(t, words, records, names, i, c, left) {
+        Checked::Next(next) => {
+            at = next;
+        }
+        Checked::Refused(x, p) => {
+            return Checked::Refused(x, p);
+        }
+    }
+    let r = records::record_at(records, i);
+    let row = shapes::row_of(t, r.kind, r.variant);
+    let mut j: usize = 0;
+    while j < PARTS {
+        let part = shapes::cell(t, row + 2 + j);
+        if part == 0 {
+            return Checked::Next(at);
+        }
+        match run(
+            t,
+            words,
+            records,
+            names,
+            at,
+            part,
+            times(part, r.count),
+            left - 1,
+        ) {
+            Checked::Next(next) => {
+                at = next;
+            }
+            Checked::Refused(x, p) => {
+                return Checked::Refused(x, p);
+            }
+        }
+        j += 1;
+    }
+    Checked::Next(at)
+}
+
+// n trees of class c, one behind the other.
+fn run(
+    t: &Shapes,
+    words: &Words,
+    records: &[u8],
+    names: &[u8],
+    i: usize,
+    c: u8,
+    n: usize,
+    left: usize,
+) -> Checked
+    requires { ⌜ (ShapeTable.Shaped (now t)) × (now words ≡ WordTable.table) ⌝ }
+    ensures { λ r. ⌜ r ≡ Check.run (now (records .entry)) (now (names .entry)) left (ShapeTable.classOf c) n i ⌝ }
+{
+    let mut at = i;
+    let mut k: usize = 0;
+    while k < n {
+        match node(t, words, records, names, at, c, left) {
+            Checked::Next(next) => {
+                at = next;
+            }
+            Checked::Refused(x, p) => {
+                return Checked::Refused(x, p);
+            }
+        }
+        k += 1;
+    }
+    Checked::Next(at)
+}
+
+// Are the records none, not whole, or too many?
+fn records_out_of_size(records: &[u8]) -> bool
+    ensures { λ r. ⌜ r ≡ Check.recordsOutOfSize (now (records .entry)) ⌝ }
+{
+    let n = records.len();
+    (n == 0) | (n % RECORD != 0) | (MOST_RECORD_BYTES < n)
+}
+
+// The whole, for a root of class c.
+fn check(records: &[u8], names: &[u8], c: u8) -> Checked
+    ensures { λ r. ⌜ r ≡ Check.check (now (records .entry)) (now (names .entry)) (ShapeTable.classOf c) ⌝ }
+{
+    if records_out_of_size(records) {
+        return Checked::Refused(Refusal::RecordsOutOfSize, 0);
+    }
+    if MOST_NAME_BYTES < names.len() {
+        return Checked::Refused(Refusal::NamesOutOfSize, 0);
+    }
+    let t = shapes::table();
+    let words = words::table();
+    match node(&t, &words, records, names, 0, c, DEEPEST) {
+        Checked::Next(next) => {
+            if next == records::whole_records(records) {
+                return Checked::Next(next);
+            }
+            Checked::Refused(Refusal::RecordsLeftOver, next)
+        }
+        Checked::Refused(x, p) => Checked::Refused(x, p),
+    }
+}
+
+// Are the records a unit? Its root is of kind 80.
+pub fn check_unit(records: &[u8], names: &[u8]) -> Checked
+    ensures { λ r. ⌜ r ≡ Check.check (now (records .entry)) (now (names .entry)) Class.unit ⌝ }
+{
+    check(records, names, UNIT)
+}
+
+// Are the records an expression? Its root is of kind 1 to 16.
+pub fn check_expr(records: &[u8], names: &[u8]) -> Checked
+    ensures { λ r. ⌜ r ≡ Check.check (now (records .entry)) (now (names .entry)) Class.expr ⌝ }
+{
+    check(records, names, EXPR)
+}
