@@ -1,0 +1,10 @@
+pub mod Sizes
+pub mod Places
+pub mod Sound
+pub mod Each
+pub mod Unique
+pub mod Front
+pub mod Steps
+pub mod Case
+pub mod Deep
+pub mod Examples
