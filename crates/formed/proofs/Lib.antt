@@ -1,0 +1,13 @@
+pub mod As
+pub mod Plan
+pub mod Optional
+pub mod Span
+pub mod Faultless
+pub mod Kind
+pub mod Opened
+pub mod Exprs
+pub mod Types
+pub mod Declarations
+pub mod Statements
+pub mod Classes
+pub mod Formed
