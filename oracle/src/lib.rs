@@ -5,6 +5,7 @@
 //! All of it is written from the words of document 01, not from our own definitions, so that it can contradict them.
 
 pub mod answer;
+pub mod cases;
 pub mod grow;
 pub mod joined;
 pub mod line;
@@ -15,4 +16,5 @@ pub mod record;
 pub mod refusal;
 pub mod settings;
 pub mod tables;
+pub mod tree;
 pub mod words;

@@ -1,8 +1,9 @@
 //! Random trees: all are good, and some thousand of them show everything that document 01's tables have.
 
 use oracle::answer::{answer, Outcome, Question, Root};
+use oracle::cases::{cover::records, damage};
 use oracle::random::Random;
-use oracle::record::{shape, Record, SIZE};
+use oracle::record::shape;
 use oracle::{grow, settings};
 use std::collections::BTreeSet;
 
@@ -10,10 +11,6 @@ const CASES: u64 = 3_000;
 
 fn questions() -> impl Iterator<Item = Question> {
     (0..CASES).map(|case| grow::question(1, case))
-}
-
-fn records(question: &Question) -> impl Iterator<Item = Record> + '_ {
-    question.records.as_chunks::<SIZE>().0.iter().map(Record::from_bytes)
 }
 
 #[test]
@@ -70,28 +67,12 @@ fn joined_is_answered_both_ways() {
     assert!(joined > 50 && not > 500, "{joined} joined, {not} not");
 }
 
-/// Spoils a question: another byte, or a record too few or too many.
-fn damaged(question: Question, random: &mut Random) -> Question {
-    let Question { mut records, mut names, .. } = question;
-    let last = records.len() / SIZE - 1;
-    let start = SIZE * random.between(0, last);
-    match random.byte(6) {
-        0 => records.truncate(start),
-        1 => records.extend_from_within(start..start + SIZE),
-        2 => names.truncate(random.between(0, names.len())),
-        3 => records[start] = random.byte(81),
-        4 => records[start + 2] = random.byte(1),
-        _ => records[start + random.between(1, SIZE - 1)] = random.byte(30),
-    }
-    Question { records, names, ..question }
-}
-
 #[test]
 fn damaged_trees_are_refused_or_answered() {
     let mut random = Random::new(1, CASES);
     let mut refusals = BTreeSet::new();
     for question in questions().chain(questions()) {
-        if let Outcome::Refused(refusal) = answer(&damaged(question, &mut random)).text {
+        if let Outcome::Refused(refusal) = answer(&damage::once(&question, &mut random)).text {
             refusals.insert(refusal.number());
         }
     }

@@ -2,9 +2,10 @@
 
 mod common;
 
-use common::{all, ask, declared, function, int, keyword, many, named, plain, rec, var};
+use common::ask;
 use oracle::answer::{Answer, Outcome, Root};
 use oracle::settings::TIGHT;
+use oracle::tree::{all, declared, function, int, keyword, many, named, plain, rec, var};
 
 /// The refusal of a print: number and place. Nothing where the text is given.
 fn refusal(answer: &Answer) -> Option<(u8, usize)> {

@@ -4,9 +4,10 @@
 
 mod common;
 
-use common::{all, ask, declared, function, int, keyword, many, named, plain, rec, var};
+use common::ask;
 use oracle::answer::{Answer, Outcome, Root};
 use oracle::settings::{OPEN, SIZE, TIGHT};
+use oracle::tree::{all, declared, function, int, keyword, many, named, plain, rec, var};
 
 /// Asserts the text of a unit in one settings.
 fn unit_in(settings: [u8; SIZE], records: &[u8], names: &str, text: &str) {

@@ -8,6 +8,7 @@ mod expr;
 mod statement;
 mod types;
 
+use crate::answer::{Question, Root};
 use crate::record::{self, shape, Count, Payload, Record};
 use crate::refusal::{Reason, Refusal};
 use crate::words;
@@ -42,6 +43,15 @@ pub fn unit(records: &[u8], names: &[u8]) -> Read<Whole<ast::TranslationUnit>> {
 /// Reads an expression (root 1..16).
 pub fn expr(records: &[u8], names: &[u8]) -> Read<Whole<ast::Expr>> {
     whole(records, names, Reader::expr)
+}
+
+/// Why the records of a question are refused; nothing where they are a tree. Its settings do not count.
+pub fn refusal(question: &Question) -> Option<Refusal> {
+    let Question { root, records, names, .. } = question;
+    match root {
+        Root::Unit => unit(records, names).err(),
+        Root::Expr => expr(records, names).err(),
+    }
 }
 
 /// Reads one tree that takes all records. Refusals 2 and 3, those of the tree, then 12.

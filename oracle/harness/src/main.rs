@@ -1,0 +1,51 @@
+//! The program `harness`: compares static libraries with the oracle, and times them.
+
+mod ask;
+mod compare;
+mod library;
+mod speed;
+
+use std::process::ExitCode;
+
+const USAGE: &str = "\
+usage: harness check SEED CASES   asks CHECK_LIB and the oracle for the record check
+       harness print SEED CASES   asks GLSL_LIB and the oracle for texts, and whether they are joined
+       harness speed SEED         times the calls there are, beside the Rust module's print
+CASES grown trees are asked for; the other questions are the same in every run but for SEED's trees.";
+
+/// Whether all agrees; an error is a message for the user.
+type Verdict = Result<bool, String>;
+
+fn main() -> ExitCode {
+    let arguments: Vec<String> = std::env::args().skip(1).collect();
+    let arguments: Vec<&str> = arguments.iter().map(String::as_str).collect();
+    match run(&arguments) {
+        Ok(true) => ExitCode::SUCCESS,
+        Ok(false) => ExitCode::from(1),
+        Err(message) => {
+            eprintln!("{message}");
+            ExitCode::from(2)
+        }
+    }
+}
+
+fn run(arguments: &[&str]) -> Verdict {
+    let number = |word: &str| word.parse::<u64>().map_err(|error| format!("{word}: {error}"));
+    match *arguments {
+        ["check", seed, cases] => {
+            let check = library::CHECK.ok_or_else(|| lacking("CHECK_LIB"))?;
+            Ok(compare::run(number(seed)?, number(cases)?, |question| ask::check(check, question)))
+        }
+        ["print", seed, cases] => {
+            let (print, joined) = library::PRINT.zip(library::JOINED).ok_or_else(|| lacking("GLSL_LIB"))?;
+            Ok(compare::run(number(seed)?, number(cases)?, |question| ask::print(print, joined, question)))
+        }
+        ["speed", seed] => speed::run(number(seed)?).map(|()| true).map_err(|refusal| refusal.to_string()),
+        _ => Err(USAGE.to_owned()),
+    }
+}
+
+/// The message where a library was not linked.
+fn lacking(variable: &str) -> String {
+    format!("no library: build the harness with {variable} set to the path of a static library")
+}

@@ -1,0 +1,378 @@
+//! Units of many records, on which times are taken: grown ones, ones like a shader's, and calls with many names.
+
+use super::tight;
+use crate::answer::{Question, Root};
+use crate::grow;
+use crate::random::Random;
+use crate::record::{Record, SIZE};
+use crate::tree::{all, function, many, plain, var};
+
+/// Why a number fits its field.
+const SMALL: &str = "a unit has at most 4,096 records and 32,768 bytes of names";
+
+/// A unit of at most so many records: the declarations of grown units, one behind the other.
+pub fn grown(seed: u64, size: usize) -> Question {
+    let mut unit = Unit::new(seed);
+    for case in 0.. {
+        let part = grow::question(seed, case);
+        if part.root == Root::Unit && !unit.take(&part, size) {
+            break;
+        }
+    }
+    unit.question()
+}
+
+/// A unit that is being put together.
+struct Unit {
+    random: Random,
+    children: u16,
+    records: Vec<u8>,
+    names: Vec<u8>,
+}
+
+impl Unit {
+    fn new(seed: u64) -> Self {
+        Self { random: Random::new(seed, 0), children: 0, records: Vec::new(), names: Vec::new() }
+    }
+
+    /// The number of records, the root included.
+    fn size(&self) -> usize {
+        1 + self.records.len() / SIZE
+    }
+
+    /// Takes another unit's declarations, if they fit.
+    fn take(&mut self, part: &Question, size: usize) -> bool {
+        let shift = u32::try_from(self.names.len()).expect(SMALL);
+        let (root, rest) = part.records.as_chunks::<SIZE>().0.split_first().expect("a grown tree has a root");
+        let fits = self.size() + rest.len() <= size && self.names.len() + part.names.len() <= crate::read::MOST_NAMES;
+        if fits {
+            self.children += Record::from_bytes(root).count;
+            self.names.extend(&part.names);
+            for bytes in rest {
+                let record = Record::from_bytes(bytes);
+                // What has a length has a text.
+                let a = if record.b == 0 { record.a } else { record.a + shift };
+                self.records.extend(Record { a, ..record }.to_bytes());
+            }
+        }
+        fits
+    }
+
+    fn question(self) -> Question {
+        tight(Root::Unit, all(&[&many(80, self.children), &self.records]), self.names)
+    }
+}
+
+const VARIABLES: [&str; 32] = [
+    "color",
+    "position",
+    "normal",
+    "uv",
+    "lightDir",
+    "viewDir",
+    "halfVec",
+    "i",
+    "j",
+    "n",
+    "p",
+    "t",
+    "eye",
+    "depth",
+    "shadow",
+    "diffuse",
+    "specular",
+    "ambient",
+    "roughness",
+    "metallic",
+    "tangent",
+    "v_texCoord",
+    "u_time",
+    "u_resolution",
+    "modelViewMatrix",
+    "projectionMatrix",
+    "gl_Position",
+    "gl_FragCoord",
+    "fragColor",
+    "result",
+    "sum",
+    "weight",
+];
+const FUNCTIONS: [&str; 16] = [
+    "normalize",
+    "dot",
+    "max",
+    "min",
+    "pow",
+    "mix",
+    "clamp",
+    "texture",
+    "length",
+    "cross",
+    "reflect",
+    "smoothstep",
+    "fract",
+    "sin",
+    "noise",
+    "shade",
+];
+const FIELDS: [&str; 8] = ["xyz", "x", "y", "z", "w", "rgb", "a", "xy"];
+const FLOATS: [&str; 10] = ["0", "1", "2", "0.5", "0.25", "3.14159", "0.001", "16", "0.2126", "100"];
+
+/// The names that [`shader`] takes from.
+pub fn shader_names() -> Vec<Vec<u8>> {
+    VARIABLES.iter().chain(&FUNCTIONS).chain(&FIELDS).map(|word| word.as_bytes().to_vec()).collect()
+}
+
+/// Where the words of a table lie in the names.
+type Pool = Vec<(u32, u32)>;
+
+/// Writes a unit like a shader's.
+struct Shader {
+    unit: Unit,
+    variables: Pool,
+    functions: Pool,
+    fields: Pool,
+    floats: Pool,
+}
+
+/// A unit like a shader's, of about so many records: declarations, and functions with statements that are mostly
+/// expressions; names are words of one to sixteen letters, each once in the names.
+pub fn shader(seed: u64, size: usize) -> Question {
+    let mut unit = Unit::new(seed);
+    let names = &mut unit.names;
+    let [variables, functions, fields, floats] = [&VARIABLES[..], &FUNCTIONS, &FIELDS, &FLOATS].map(|w| pool(names, w));
+    let mut shader = Shader { unit, variables, functions, fields, floats };
+    for _ in 0..12 {
+        shader.global();
+    }
+    // A function has some 150 records, at most about 500.
+    while shader.unit.size() + 500 <= size {
+        shader.function();
+    }
+    while shader.unit.size() + 8 <= size {
+        shader.global();
+    }
+    shader.unit.question()
+}
+
+/// Puts words behind the names.
+fn pool(names: &mut Vec<u8>, words: &[&str]) -> Pool {
+    words.iter().map(|word| put(names, word.as_bytes())).collect()
+}
+
+/// Puts a text behind the names.
+fn put(names: &mut Vec<u8>, text: &[u8]) -> (u32, u32) {
+    let start = names.len();
+    names.extend(text);
+    (u32::try_from(start).expect(SMALL), u32::try_from(text.len()).expect(SMALL))
+}
+
+impl Shader {
+    fn put(&mut self, kind: u8, variant: u8, count: usize) {
+        self.put_text(kind, variant, count, (0, 0));
+    }
+
+    fn put_text(&mut self, kind: u8, variant: u8, count: usize, (a, b): (u32, u32)) {
+        let count = u16::try_from(count).expect(SMALL);
+        self.unit.records.extend(Record { kind, variant, count, a, b }.to_bytes());
+    }
+
+    fn one_of(random: &mut Random, pool: &Pool) -> (u32, u32) {
+        pool[random.between(0, pool.len() - 1)]
+    }
+
+    fn put_variable(&mut self, kind: u8, variant: u8) {
+        let name = Self::one_of(&mut self.unit.random, &self.variables);
+        self.put_text(kind, variant, 0, name);
+    }
+
+    /// A keyword type: float and the vectors, mostly.
+    fn keyword(&mut self) {
+        let word = self.unit.random.weighted(&[(30, 4), (10, 2), (15, 6), (25, 7), (15, 8), (5, 23)]).unwrap_or(4);
+        self.put(20, 0, 0);
+        self.put(21, word, 0);
+    }
+
+    /// `uniform vec3 name;`, or in, out, const.
+    fn global(&mut self) {
+        self.unit.children += 1;
+        self.put(47, 1, 0);
+        self.put(42, 0, 0);
+        self.put_variable(43, 1);
+        self.put(31, 1, 0);
+        self.put(28, 0, 1);
+        let word = self.unit.random.weighted(&[(50, 7), (25, 2), (25, 3)]).unwrap_or(7);
+        self.put(29, word, 0);
+        self.keyword();
+    }
+
+    fn function(&mut self) {
+        self.unit.children += 1;
+        let parameters = self.unit.random.between(0, 3);
+        self.put(81, 0, 0);
+        let name = Self::one_of(&mut self.unit.random, &self.functions);
+        self.put_text(40, 0, parameters, name);
+        self.put(31, 0, 0);
+        self.keyword();
+        for _ in 0..parameters {
+            self.put(41, 1, 0);
+            self.keyword();
+            self.put_variable(27, 0);
+        }
+        let statements = self.unit.random.between(4, 10);
+        self.block(statements, 2);
+    }
+
+    fn block(&mut self, statements: usize, depth: usize) {
+        self.put(60, 0, statements);
+        for _ in 0..statements {
+            self.statement(depth);
+        }
+    }
+
+    fn statement(&mut self, depth: usize) {
+        let deeper = if depth > 0 { 1 } else { 0 };
+        let sort = self.unit.random.weighted(&[(35, 0), (45, 1), (8, 2), (12 * deeper, 3), (5 * deeper, 4)]);
+        match sort {
+            Some(0) => self.local(),
+            Some(2) => {
+                self.put(68, 4, 0);
+                self.expr(3);
+            }
+            Some(3) => {
+                let variant = self.unit.random.byte(1);
+                self.put(62, variant, 0);
+                self.expr(2);
+                for _ in 0..=variant {
+                    let statements = self.unit.random.between(1, 3);
+                    self.block(statements, depth - 1);
+                }
+            }
+            Some(4) => {
+                self.put(67, 3, 0);
+                self.put(70, 2, 0);
+                self.local();
+                self.put(69, 0, 0);
+                self.expr(1);
+                self.put(14, 0, 0);
+                self.put_variable(1, 0);
+                self.block(2, depth - 1);
+            }
+            _ => {
+                self.put(61, 1, 0);
+                self.put(10, 0, 0);
+                self.place();
+                self.expr(4);
+            }
+        }
+    }
+
+    /// `vec3 name = expression;`
+    fn local(&mut self) {
+        self.put(47, 1, 0);
+        self.put(42, 0, 0);
+        self.put_variable(43, 5);
+        self.put(31, 0, 0);
+        self.keyword();
+        self.put(45, 0, 0);
+        self.expr(4);
+    }
+
+    /// A variable, or a field of one.
+    fn place(&mut self) {
+        if self.unit.random.chance(40) {
+            let name = Self::one_of(&mut self.unit.random, &self.fields);
+            self.put_text(13, 0, 0, name);
+        }
+        self.put_variable(1, 0);
+    }
+
+    fn expr(&mut self, depth: usize) {
+        let deeper = if depth > 0 { 1 } else { 0 };
+        let sort =
+            self.unit.random.weighted(&[(20, 0), (10, 1), (4, 2), (35 * deeper, 3), (16 * deeper, 4), (5 * deeper, 5)]);
+        match sort {
+            Some(1) => {
+                let text = Self::one_of(&mut self.unit.random, &self.floats);
+                self.put_text(5, 0, 0, text);
+            }
+            Some(2) => {
+                let a = self.unit.random.bits32() % 16;
+                self.put_text(2, 0, 0, (a, 0));
+            }
+            Some(3) => {
+                let op = self.unit.random.weighted(&[(30, 16), (30, 14), (20, 15), (10, 17), (10, 8)]).unwrap_or(14);
+                self.put(8, op, 0);
+                self.expr(depth - 1);
+                self.expr(depth - 1);
+            }
+            Some(4) => {
+                let arguments = self.unit.random.between(1, 3);
+                self.put(12, 0, arguments);
+                if self.unit.random.chance(30) {
+                    self.keyword();
+                } else {
+                    let name = Self::one_of(&mut self.unit.random, &self.functions);
+                    self.put_text(1, 0, 0, name);
+                }
+                for _ in 0..arguments {
+                    self.expr(depth - 1);
+                }
+            }
+            Some(5) => {
+                self.put(7, 3, 0);
+                self.expr(depth - 1);
+            }
+            _ => self.place(),
+        }
+    }
+}
+
+/// Arguments of the calls that [`atoms`] makes.
+pub const ATOMS: u16 = 4_000;
+
+/// Two units with one call of [`ATOMS`] arguments: each a variable, named by one of the texts at random; each a bool.
+pub fn atoms(seed: u64, texts: &[Vec<u8>]) -> [Question; 2] {
+    let mut random = Random::new(seed, 0);
+    let mut names = b"f".to_vec();
+    let places: Pool = texts.iter().map(|text| put(&mut names, text)).collect();
+    let mut unit = |mut atom: Box<dyn FnMut(&mut Random) -> Record + '_>| {
+        let before = all(&[&many(80, 1), &function(0), &many(60, 1), &plain(61, 1), &many(12, ATOMS), &var(0)]);
+        let atoms = (0..ATOMS).flat_map(|_| atom(&mut random).to_bytes());
+        tight(Root::Unit, before.into_iter().chain(atoms).collect(), names.clone())
+    };
+    let variables = unit(Box::new(|random| {
+        let (a, b) = Shader::one_of(random, &places);
+        Record { kind: 1, a, b, ..Record::default() }
+    }));
+    let bools = unit(Box::new(|random| Record { kind: 4, variant: random.byte(1), ..Record::default() }));
+    [variables, bools]
+}
+
+#[cfg(test)]
+mod tests {
+    use super::*;
+    use crate::answer::{answer, Outcome};
+
+    fn is_good(question: &Question) -> bool {
+        matches!(answer(question).text, Outcome::Given(_))
+    }
+
+    #[test]
+    fn large_units_are_good_and_large() {
+        for seed in 0..20 {
+            for unit in [grown(seed, 4_000), shader(seed, 4_000)] {
+                assert!(is_good(&unit), "seed {seed}");
+                assert!((3_400..=4_000).contains(&(unit.records.len() / SIZE)), "seed {seed}");
+            }
+        }
+    }
+
+    #[test]
+    fn atoms_are_good() {
+        for unit in atoms(1, &[b"a".to_vec(), b"bc".to_vec()]) {
+            assert!(is_good(&unit));
+            assert_eq!(unit.records.len() / SIZE, 4_010);
+        }
+    }
+}

@@ -1,0 +1,18 @@
+//! Questions on which a printer is compared with the oracle: whole trees and damaged ones, short inputs, and inputs at
+//! document 01's limits. [`large`] makes the units on which times are taken.
+//!
+//! Most are iterators that make a question when it is asked for; what is random goes by seed, so that it can be had again.
+
+pub mod cover;
+pub mod damage;
+pub mod large;
+pub mod limits;
+pub mod short;
+
+use crate::answer::{Question, Root};
+use crate::settings;
+
+/// A question in TIGHT.
+pub fn tight(root: Root, records: Vec<u8>, names: impl Into<Vec<u8>>) -> Question {
+    Question { root, settings: settings::TIGHT.to_vec(), records, names: names.into() }
+}
