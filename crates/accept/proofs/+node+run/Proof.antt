@@ -1,3 +1,4 @@
+-- `accept::node` and `accept::run` meet their contracts: the parts of a row that are left, and the trees of a part that are left, are all of them from the start. Assumes nothing.
 use mathlib.Core.Path.{_≡_, sym, _∙_}
 use Prim.Native.Nat.{ℕ, _+_, _-_, _*_, _≤_, _<_}
 use native.Mathlib.Omega.{arith}

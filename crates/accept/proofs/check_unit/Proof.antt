@@ -1,3 +1,4 @@
+-- `accept::check_unit` meets its contract: the class of number 26. Assumes nothing.
 use Rattle.shapes.specs.Table.{classOf}
 use borrow.Author.Needs.{needs}
 use Rattle.accept.proofs.check_unit.Statement.{statement}

@@ -1,3 +1,4 @@
+-- `accept::contents` meets its contract: the tests stand in the definition's order. Assumes nothing.
 use borrow.Author.Needs.{needs}
 use Rattle.accept.proofs.contents.Statement.{statement}
 use Rattle.accept.proofs.contents.Tie as tie

@@ -1,3 +1,4 @@
+-- `accept::count_set` meets its contract: each arm by its code. Assumes nothing.
 use Prim.Native.Nat.{ℕ}
 use Rattle.shapes.specs.Table.{countOf, shapeAt}
 use Rattle.accept.specs.Check.{countSet}

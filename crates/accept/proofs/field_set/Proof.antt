@@ -1,3 +1,4 @@
+-- `accept::field_set` meets its contract: each arm by its code. Assumes nothing.
 use Prim.Native.Nat.{ℕ}
 use Rattle.shapes.specs.Table.{fieldsOf, shapeAt}
 use Rattle.accept.specs.Check.{fieldSet}

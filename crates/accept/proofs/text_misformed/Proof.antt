@@ -1,3 +1,4 @@
+-- `accept::text_misformed` meets its contract: each arm by its code. Assumes nothing.
 use mathlib.Core.Path.{_∙_, ap}
 use mathlib.Core.Bool.{not}
 use Prim.Native.Nat.{ℕ}

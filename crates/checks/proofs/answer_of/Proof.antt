@@ -1,3 +1,4 @@
+-- `checks::answer_of` meets its contract: by the case. Assumes nothing.
 use mathlib.Core.Path.{sym, _∙_, ap, subst}
 use Prim.Native.Nat.{_<_, _^_}
 use native.Mathlib.Omega.{arith}

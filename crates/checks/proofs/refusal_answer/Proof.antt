@@ -1,3 +1,4 @@
+-- `checks::refusal_answer` meets its contract: a sum below 2^63 is turned safely. Assumes nothing.
 use mathlib.Core.Path.{_≡_, sym, _∙_, ap, subst}
 use Prim.Native.Nat.{ℕ, _+_, _*_, _<_, _^_}
 use native.Mathlib.Omega.{arith}

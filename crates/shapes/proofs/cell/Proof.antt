@@ -1,3 +1,4 @@
+-- `shapes::cell` meets its contract: a byte of the array is a byte of the table. Assumes nothing.
 use borrow.Author.Needs.{needs}
 use Rattle.shapes.specs.Table.{cell}
 use Rattle.shapes.proofs.cell.Statement.{statement}

@@ -1,3 +1,4 @@
+-- `shapes::last_variant` meets its contract: the first byte of a kind's head. Assumes nothing.
 use borrow.Author.Needs.{needs}
 use Rattle.shapes.proofs.Laws.{last-here}
 use Rattle.shapes.proofs.last_variant.Statement.{statement}

@@ -1,3 +1,4 @@
+-- `shapes::row_of` meets its contract: the second byte of a kind's head is its first row, and its variants' rows follow. Assumes nothing.
 use mathlib.Core.Path.{refl}
 use native.Mathlib.Omega.{arith}
 use borrow.Author.Needs.{needs}

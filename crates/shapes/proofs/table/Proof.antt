@@ -1,3 +1,4 @@
+-- `shapes::table` meets its contract: the constant says the definitions, by one computed test. Assumes nothing.
 use mathlib.Core.Path.{refl}
 use Rattle.shapes.specs.Class.{allowed}
 use Rattle.shapes.specs.Shape.{rows, lastVariant, shapeOf}

@@ -1,3 +1,4 @@
+-- `shapes::takes_kind` meets its contract: the first three bytes of a class's row. Assumes nothing.
 use borrow.Author.Needs.{needs}
 use Rattle.shapes.proofs.Laws.{kind-taken}
 use Rattle.shapes.proofs.takes_kind.Statement.{statement}

@@ -1,3 +1,4 @@
+-- `shapes::takes_variant` meets its contract: the next two bytes of a class's row. Assumes nothing.
 use borrow.Author.Needs.{needs}
 use Rattle.shapes.proofs.Laws.{variant-taken}
 use Rattle.shapes.proofs.takes_variant.Statement.{statement}
