@@ -10,7 +10,7 @@ use borrow.Author.Tests.{eq-eqb, ne-eqb}
 use Rattle.records.specs.Record.{recordAt}
 use Rattle.shapes.specs.Class.{Class}
 use Rattle.shapes.specs.Shape.{Part, classes}
-use Rattle.shapes.specs.Table.{cell, classOf, partOf, partsAt}
+use Rattle.shapes.specs.Table.{cell, classOf, partOf, times, partsAt}
 use Rattle.accept.specs.declared.Refusal.{Refusal}
 use Rattle.accept.specs.declared.Checked.{Checked}
 use Rattle.accept.specs.declared.Checked.the-variants.{Next, Refused}
@@ -33,11 +33,9 @@ module _ (f : Class → ℕ → Checked) where
         let p : n - k ≡ suc (n - (k + 1)) = omega arith in
         e ∙ ap (λ (m : ℕ). each f (replicate m c) i) p
 
-    pub run-more : {m : ℕ} → k < n → w ≡ each f (replicate (n - k) c) i → f c i ≡ Next m → w ≡ each f (replicate (n - (k + 1)) c) m
-    run-more h e g = run-cons h e ∙ ap (λ (z : Checked). bind z (each f (replicate (n - (k + 1)) c))) g
-
-    pub run-stop : {x : Refusal} {p : ℕ} → k < n → w ≡ each f (replicate (n - k) c) i → f c i ≡ Refused x p → w ≡ Refused x p
-    run-stop h e g = run-cons h e ∙ ap (λ (z : Checked). bind z (each f (replicate (n - (k + 1)) c))) g
+    -- the next tree is walked: those behind it follow, or it refuses
+    pub run-step : {o : Checked} → k < n → w ≡ each f (replicate (n - k) c) i → f c i ≡ o → w ≡ bind o (each f (replicate (n - (k + 1)) c))
+    run-step h e g = run-cons h e ∙ ap (λ (z : Checked). bind z (each f (replicate (n - (k + 1)) c))) g
 
     pub run-done : n ≤ k → w ≡ each f (replicate (n - k) c) i → w ≡ Next i
     run-done h e =
@@ -45,9 +43,6 @@ module _ (f : Class → ℕ → Checked) where
         e ∙ ap (λ (m : ℕ). each f (replicate m c) i) p
 
 -- a part stands for as many trees of its class as it says
-abbrev pub times : ℕ → ℕ → ℕ
-times x n = cond (eqb (x / 32) 1) 1 n
-
 part-classes : (n x : ℕ) (ps : List Part) → classes n (partOf x ∷ ps) ≡ replicate (times x n) (classOf x) ++ classes n ps
 unfolding classes
 part-classes n x ps = go (eqb (x / 32) 1)
@@ -99,14 +94,10 @@ module _ (t : List ℕ) (f : Class → ℕ → Checked) (n row j i : ℕ) where
       ∙ ap (λ (y : ℕ). bind (each f (replicate y (classOf x)) i) (each f (classes n (partsAt t (4 - (j + 1)) (row + 2 + j + 1))))) (sym u)
       ∙ ap (λ (p : ℕ). bind (each f (replicate k (classOf x)) i) (each f (classes n (partsAt t (4 - (j + 1)) p)))) b
 
-  module _ (x k : ℕ) {w o : Checked} where
-    pub part-more : {m : ℕ} → j < 4 → x ≡ cell t (row + 2 + j) → (x ≡ 0 → ⊥) → k ≡ times x n → w ≡ partsLeft t f n row j i
-        → o ≡ each f (replicate k (classOf x)) i → o ≡ Next m → w ≡ partsLeft t f n row (j + 1) m
-    part-more h q z u e g v = e ∙ part-trees x k h q z u ∙ ap (λ (y : Checked). bind y (partsLeft t f n row (j + 1))) (sym g ∙ v)
-
-    pub part-stop : {y : Refusal} {p : ℕ} → j < 4 → x ≡ cell t (row + 2 + j) → (x ≡ 0 → ⊥) → k ≡ times x n → w ≡ partsLeft t f n row j i
-        → o ≡ each f (replicate k (classOf x)) i → o ≡ Refused y p → w ≡ Refused y p
-    part-stop h q z u e g v = e ∙ part-trees x k h q z u ∙ ap (λ (y : Checked). bind y (partsLeft t f n row (j + 1))) (sym g ∙ v)
+  -- the trees of part j are walked, by o: those of the next part follow, or one refuses
+  pub part-step : (x k : ℕ) {w o o′ : Checked} → j < 4 → x ≡ cell t (row + 2 + j) → (x ≡ 0 → ⊥) → k ≡ times x n → w ≡ partsLeft t f n row j i
+      → o ≡ each f (replicate k (classOf x)) i → o ≡ o′ → w ≡ bind o′ (partsLeft t f n row (j + 1))
+  part-step x k h q z u e g v = e ∙ part-trees x k h q z u ∙ ap (λ (y : Checked). bind y (partsLeft t f n row (j + 1))) (sym g ∙ v)
 
 -- the tree at record i, where the record by itself is refused, and where it is not
 module _ (records names : List ℕ) (left : ℕ) (c : Class) (i : ℕ) where

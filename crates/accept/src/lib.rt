@@ -1,9 +1,9 @@
 // The record check: whatever bytes come, they are the tree that a root asks for, or there is one numbered refusal at one place.
 // The tests of a record stand in the paper's order; what is tested goes by the table of crate shapes, which is made once and lent down.
 ghost use mathlib.Core.Path.{_≡_};
-ghost use mathlib.Core.Bool.{_&&_, cond};
-ghost use Prim.Native.Nat.{_+_, _/_, _^_, _≤_, _<_};
-ghost use lib.Dec.{eqb, leb};
+ghost use mathlib.Core.Bool.{_&&_};
+ghost use Prim.Native.Nat.{_+_, _^_, _≤_, _<_};
+ghost use lib.Dec.{leb};
 ghost use Rattle.words.specs.Table as WordTable;
 ghost use Rattle.shapes.specs.Class.{Class, takesVariant};
 ghost use Rattle.shapes.specs.Table as ShapeTable;
@@ -53,7 +53,7 @@ const MOST_NAME_BYTES: usize = 32768;
 
 // Is the count 0 where there must be one?
 fn count_missing(t: &Shapes, row: usize, n: u16) -> bool
-    requires { ⌜ row + 8 ≤ ShapeTable.firstClassRow ⌝ }
+    requires { ⌜ row + ShapeTable.rowSize ≤ ShapeTable.firstClassRow ⌝ }
     ensures { λ r. ⌜ r ≡ Check.countMissing (ShapeTable.shapeAt (now (t .entry)) row .count) n ⌝ }
 {
     match shapes::cell(t, row + 1) {
@@ -68,7 +68,7 @@ fn count_missing(t: &Shapes, row: usize, n: u16) -> bool
 
 // Is the count not 0, and not used?
 fn count_set(t: &Shapes, row: usize, n: u16) -> bool
-    requires { ⌜ row + 8 ≤ ShapeTable.firstClassRow ⌝ }
+    requires { ⌜ row + ShapeTable.rowSize ≤ ShapeTable.firstClassRow ⌝ }
     ensures { λ r. ⌜ r ≡ Check.countSet (ShapeTable.shapeAt (now (t .entry)) row .count) n ⌝ }
 {
     match shapes::cell(t, row + 1) {
@@ -80,7 +80,7 @@ fn count_set(t: &Shapes, row: usize, n: u16) -> bool
 
 // Is a or b not 0, and not used?
 fn field_set(t: &Shapes, row: usize, a: u32, b: u32) -> bool
-    requires { ⌜ row + 8 ≤ ShapeTable.firstClassRow ⌝ }
+    requires { ⌜ row + ShapeTable.rowSize ≤ ShapeTable.firstClassRow ⌝ }
     ensures { λ r. ⌜ r ≡ Check.fieldSet (ShapeTable.shapeAt (now (t .entry)) row .fields) a b ⌝ }
 {
     match shapes::cell(t, row) {
@@ -94,7 +94,7 @@ fn field_set(t: &Shapes, row: usize, a: u32, b: u32) -> bool
 
 // Does a text end beyond the names? The sum of two 32 bits is taken in 64.
 fn text_beyond(t: &Shapes, row: usize, names: &[u8], a: u32, b: u32) -> bool
-    requires { ⌜ row + 8 ≤ ShapeTable.firstClassRow ⌝ }
+    requires { ⌜ row + ShapeTable.rowSize ≤ ShapeTable.firstClassRow ⌝ }
     ensures { λ r. ⌜ r ≡ Check.textBeyond (now (names .entry)) (ShapeTable.shapeAt (now (t .entry)) row .fields) a b ⌝ }
 {
     match shapes::cell(t, row) {
@@ -108,7 +108,7 @@ fn text_beyond(t: &Shapes, row: usize, names: &[u8], a: u32, b: u32) -> bool
 
 // Is a text not in its form?
 fn text_misformed(t: &Shapes, words: &Words, row: usize, text: &[u8]) -> bool
-    requires { ⌜ (row + 8 ≤ ShapeTable.firstClassRow) × (now words ≡ WordTable.table) ⌝ }
+    requires { ⌜ (row + ShapeTable.rowSize ≤ ShapeTable.firstClassRow) × (now words ≡ WordTable.table) ⌝ }
     ensures { λ r. ⌜ r ≡ Check.textMisformed (ShapeTable.shapeAt (now (t .entry)) row .fields) (now (text .entry)) ⌝ }
 {
     match shapes::cell(t, row) {
@@ -125,7 +125,7 @@ fn text_misformed(t: &Shapes, words: &Words, row: usize, text: &[u8]) -> bool
 
 // What record i holds, where it must have the shape of this row.
 fn contents(t: &Shapes, words: &Words, names: &[u8], i: usize, row: usize, r: Record) -> Checked
-    requires { ⌜ (i + 1 < 2 ^ 64) × (row + 8 ≤ ShapeTable.firstClassRow) × (now words ≡ WordTable.table) ⌝ }
+    requires { ⌜ (i + 1 < 2 ^ 64) × (row + ShapeTable.rowSize ≤ ShapeTable.firstClassRow) × (now words ≡ WordTable.table) ⌝ }
     ensures { λ o. ⌜ o ≡ Check.judged i (Check.first (Check.contentFaults (now (names .entry)) (ShapeTable.shapeAt (now (t .entry)) row) r)) ⌝ }
 {
     if count_missing(t, row, r.count) {
@@ -181,7 +181,7 @@ fn alone(
 
 // How many children a part of a row stands for, in a record that counts n.
 fn times(part: u8, n: u16) -> usize
-    ensures { λ r. ⌜ r ≡ cond (eqb (part / 32) 1) 1 n ⌝ }
+    ensures { λ r. ⌜ r ≡ ShapeTable.times part n ⌝ }
 {
     if part / 32 == 1 {
         return 1;
@@ -219,6 +219,7 @@ fn node(
         if part == 0 {
             return Checked::Next(at);
         }
+        // a part's byte is its class too: classes are read modulo 32
         match run(
             t,
             words,

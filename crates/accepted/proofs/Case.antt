@@ -1,6 +1,6 @@
 -- For worked examples of the record check: records from numbers, and a question with its answer. Assumes nothing.
-use mathlib.Core.List.{List, [], _∷_}
-use Prim.Native.Nat.{ℕ, _/_, _%_}
+use mathlib.Core.List.{List}
+use Prim.Native.Nat.{ℕ}
 use Rattle.words.specs.Word.{wordText, qualifierWords, jumpWords, boolWords, loneWords, otherWords}
 use Rattle.words.specs.Table.{typeKeywords, fixedWords}
 use Rattle.words.specs.Form.{digit, letter, nameByte, all, same, oneOf, nameForm, digits, behindDigits, wholePart, fraction, nothingOrFraction, floatForm}
@@ -14,21 +14,6 @@ use Rattle.accept.specs.Check.{faultOf, alone, node, check}
 unfoldable pub computing : ℕ
 unfolding wordText qualifierWords jumpWords boolWords loneWords otherWords typeKeywords fixedWords digit letter nameByte all same oneOf nameForm digits behindDigits wholePart fraction nothingOrFraction floatForm recordIn recordCount recordAt part allowed rows lastVariant shapeOf classes faultOf alone node check
 computing = 0
-
--- a record: kind, variant, count, a, b
-abbrev pub rec : ℕ → ℕ → ℕ → ℕ → ℕ → List ℕ
-rec k v n a b =
-    k ∷ v ∷ n % 256 ∷ n / 256 ∷ a % 256 ∷ a / 256 % 256 ∷ a / 65536 % 256 ∷ a / 16777216 ∷ b % 256 ∷ b / 256 % 256 ∷ b / 65536 % 256 ∷ b / 16777216 ∷ []
-
--- with a variant alone; with a count alone; with the one-letter name at offset a
-abbrev pub plain : ℕ → ℕ → List ℕ
-plain k v = rec k v 0 0 0
-
-abbrev pub many : ℕ → ℕ → List ℕ
-many k n = rec k 0 n 0 0
-
-abbrev pub named : ℕ → ℕ → ℕ → List ℕ
-named k v a = rec k v 0 a 1
 
 -- what is asked, and the answer that is claimed
 pub record Case : Type 0 where

@@ -10,12 +10,13 @@ use lib.ListN.{length}
 use Rattle.words.specs.Bytes.{bytes}
 use Rattle.records.specs.Record.{recordSize, recordIn, recordAt}
 use Rattle.records.proofs.Laws.{record-here, count-whole}
+use Rattle.records.proofs.Made.{plain, named}
 use Rattle.shapes.specs.Class.{Class}
 use Rattle.accept.specs.declared.Refusal.the-variants as Why
 use Rattle.accept.specs.declared.Checked.{Checked}
 use Rattle.accept.specs.declared.Checked.the-variants.{Next, Refused}
 use Rattle.accept.specs.Check.{bind, node, recordsOutOfSize, deepest, most-records, check}
-use Rattle.accepted.proofs.Case.{computing, plain, named}
+use Rattle.accepted.proofs.Case.{computing}
 use Rattle.accepted.proofs.Sizes.{so-many, sizes-pass, accepts}
 use Rattle.accepted.proofs.Front.{later, count-behind, node-later}
 use Rattle.accepted.proofs.Steps.{passes, refuses}

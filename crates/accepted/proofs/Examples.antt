@@ -9,13 +9,14 @@ use native.Mathlib.Omega.{arith}
 use lib.ListN.{replicate}
 use Rattle.words.specs.Bytes.{bytes}
 use Rattle.records.specs.Record.{recordSize}
+use Rattle.records.proofs.Made.{rec, plain, many, named}
 use Rattle.shapes.specs.Class.{Class}
 use Rattle.accept.specs.declared.Refusal.{Refusal}
 use Rattle.accept.specs.declared.Refusal.the-variants as Why
 use Rattle.accept.specs.declared.Checked.{Checked}
 use Rattle.accept.specs.declared.Checked.the-variants.{Next, Refused}
 use Rattle.accept.specs.Check.{node, check}
-use Rattle.accepted.proofs.Case.{computing, rec, plain, many, named, Case, asked}
+use Rattle.accepted.proofs.Case.{computing, Case, asked}
 use Rattle.accepted.proofs.Deep.{chain, depth-passes, depth-refused}
 
 abbrev row : Class → List ℕ → List ℕ → Checked → List Case

@@ -69,6 +69,10 @@ countOf x = getD (Count.unused ∷ Count.any ∷ []) x Count.positive
 abbrev pub partOf : ℕ → Part
 partOf x = cond (eqb (x / 32) 1) (Part.one-of (classOf x)) (Part.counted (classOf x))
 
+-- how many children it stands for, in a record that counts n
+abbrev pub times : ℕ → ℕ → ℕ
+times x n = cond (eqb (x / 32) 1) 1 n
+
 unfoldable pub partsAt : List ℕ → ℕ → ℕ → List Part
 partsAt t zero p = []
 partsAt t (suc n) p = cond (eqb (cell t p) 0) [] (partOf (cell t p) ∷ partsAt t n (p + 1))

@@ -1,29 +1,15 @@
 -- Document 01's texts to match, and some of our own, from the bytes of the records: one table, one theorem, by computation. Assumes nothing.
-use Prim.Native.Nat.{ℕ, _/_, _%_}
+use Prim.Native.Nat.{ℕ}
 use Prim.Native.String.{String}
 use mathlib.Core.Path.{_≡_, refl}
 use mathlib.Core.Bool.{Bool, true, false}
 use mathlib.Core.List.{List, [], _∷_, _++_, map}
 use mathlib.Core.Option.{Option, none, some}
 use Rattle.words.specs.Bytes.{bytes}
+use Rattle.records.proofs.Made.{rec, plain, many, named}
 use Rattle.settings.specs.Settings.{TIGHT, OPEN}
 use Rattle.text.proofs.Case.{Case, defined}
 use Rattle.text.proofs.Computing.{computing}
-
--- a record: kind, variant, count, a, b
-abbrev pub rec : ℕ → ℕ → ℕ → ℕ → ℕ → List ℕ
-rec k v n a b =
-    k ∷ v ∷ n % 256 ∷ n / 256 ∷ a % 256 ∷ a / 256 % 256 ∷ a / 65536 % 256 ∷ a / 16777216 ∷ b % 256 ∷ b / 256 % 256 ∷ b / 65536 % 256 ∷ b / 16777216 ∷ []
-
--- with a variant alone; with a count alone; with the one-letter name at offset a
-abbrev plain : ℕ → ℕ → List ℕ
-plain k v = rec k v 0 0 0
-
-abbrev many : ℕ → ℕ → List ℕ
-many k n = rec k 0 n 0 0
-
-abbrev named : ℕ → ℕ → ℕ → List ℕ
-named k v a = rec k v 0 a 1
 
 -- expressions
 abbrev var : ℕ → List ℕ

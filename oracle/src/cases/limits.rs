@@ -98,21 +98,28 @@ fn nests() -> Vec<Nest> {
     ]
 }
 
+/// The question whole, and with each of these bytes of its records set to each of these values.
+fn with_bytes_set(
+    question: Question,
+    places: impl Iterator<Item = usize>,
+    values: [u8; 4],
+) -> impl Iterator<Item = Question> {
+    let damages: Vec<_> = places.flat_map(|at| values.map(|value| (at, value))).collect();
+    let whole = question.clone();
+    let damaged = damages.into_iter().map(move |(at, value)| {
+        let mut question = question.clone();
+        question.records[at] = value;
+        question
+    });
+    std::iter::once(whole).chain(damaged)
+}
+
 /// Trees of every nest around the greatest depth, whole and with damages in the deepest records.
 pub fn deep() -> impl Iterator<Item = Question> {
     nests().into_iter().flat_map(|nest| {
         let first = (2..).find(|&layers| is_too_deep(&nest.of(layers).0)).unwrap_or(2);
         let trees: Vec<_> = (first - 2..first + 2).map(|layers| nest.of(layers)).collect();
-        trees.into_iter().flat_map(|(question, inner)| {
-            let damages: Vec<_> = inner.flat_map(|at| [0, 1, 47, 255].map(|value| (at, value))).collect();
-            let whole = question.clone();
-            let damaged = damages.into_iter().map(move |(at, value)| {
-                let mut question = question.clone();
-                question.records[at] = value;
-                question
-            });
-            std::iter::once(whole).chain(damaged)
-        })
+        trees.into_iter().flat_map(|(question, inner)| with_bytes_set(question, inner, [0, 1, 47, 255]))
     })
 }
 
@@ -123,14 +130,7 @@ pub fn deep_trees(trees: &[Question]) -> impl Iterator<Item = Question> + '_ {
     let lowered = trees.iter().flat_map(|tree| (185..=read::DEEPEST).filter_map(|layers| lowered(tree, layers)));
     lowered.flat_map(|(question, start)| {
         let heads = (start..question.records.len()).step_by(SIZE).flat_map(|at| [at, at + 1]);
-        let damages: Vec<_> = heads.flat_map(|at| [0, 1, 20, 255].map(|value| (at, value))).collect();
-        let whole = question.clone();
-        let damaged = damages.into_iter().map(move |(at, value)| {
-            let mut question = question.clone();
-            question.records[at] = value;
-            question
-        });
-        std::iter::once(whole).chain(damaged)
+        with_bytes_set(question, heads, [0, 1, 20, 255])
     })
 }
 

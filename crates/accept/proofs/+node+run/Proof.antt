@@ -6,7 +6,7 @@ use native.Mathlib.Nat.{sub-zero}
 use borrow.Author.Needs.{needs}
 use Rattle.shapes.specs.Table.{firstClassRow, classOf}
 use Rattle.accept.specs.Check.{node as nodeAt, run as runAt}
-use Rattle.accept.proofs.Walk.{partsLeft, run-more, run-stop, run-done, part-more, part-stop, part-end, parts-done, node-stop}
+use Rattle.accept.proofs.Walk.{partsLeft, run-step, run-done, part-step, part-end, parts-done, node-stop}
 use Rattle.accept.proofs.Open.{Known, deep-enough, within, opened}
 use borrow.Fn.Kinds.{In}
 use borrow.Fn.PlainCycle.{Measures, is, falls, and}
@@ -331,7 +331,7 @@ node-returns-3 : (t : ℕ) → node-lts.Need-returns-3 (
   run.Post,
 ) (node-at t) node.Post node-Inv-loop node-μ-loop
 node-returns-3 t c =
-    sym (part-stop (c .before .before .before .before .before .before .before .before .before .before .before .before .before .before .before .before .before .args .t .now) (nodeAt (c .before .before .before .before .before .before .before .before .before .before .before .before .before .before .before .before .before .args .records .now) (c .before .before .before .before .before .before .before .before .before .before .before .before .before .before .before .before .before .args .names .now) (c .before .before .before .before .before .before .before .before .before .before .before .before .before .before .before .before .before .args .left - 1)) (c .before .before .before .before .before .before .before .before .before .before .record-at .result .count) (c .before .before .before .before .before .before .before .before .before .row-of .result) (c .before .before .before .before .before .before .before .before .loop .j) (c .before .before .before .before .before .before .before .before .loop .at) _ _ (c .before .before .before .before .before .before .before .loop-test .taken) (c .before .before .before .before .before .before .cell .ensures) (c .before .before .before .before .before .if1 .left) (c .before .before .before .before .times .ensures) (c .before .before .before .before .before .before .before .before .loop .inv .3) (c .before .before .before .run .ensures) (c .before .x2 .given .1))
+    sym (part-step (c .before .before .before .before .before .before .before .before .before .before .before .before .before .before .before .before .before .args .t .now) (nodeAt (c .before .before .before .before .before .before .before .before .before .before .before .before .before .before .before .before .before .args .records .now) (c .before .before .before .before .before .before .before .before .before .before .before .before .before .before .before .before .before .args .names .now) (c .before .before .before .before .before .before .before .before .before .before .before .before .before .before .before .before .before .args .left - 1)) (c .before .before .before .before .before .before .before .before .before .before .record-at .result .count) (c .before .before .before .before .before .before .before .before .before .row-of .result) (c .before .before .before .before .before .before .before .before .loop .j) (c .before .before .before .before .before .before .before .before .loop .at) _ _ (c .before .before .before .before .before .before .before .loop-test .taken) (c .before .before .before .before .before .before .cell .ensures) (c .before .before .before .before .before .if1 .left) (c .before .before .before .before .times .ensures) (c .before .before .before .before .before .before .before .before .loop .inv .3) (c .before .before .before .run .ensures) (c .before .x2 .given .1))
 
 node-add-j : (t : ℕ) → node-lts.Need-add-j (
   alone-reads.Asked,
@@ -383,7 +383,7 @@ node-loop-again t c = (
   omega arith,
   c .before .before .before .before .before .before .before .before .loop .inv .1,
   c .before .before .before .before .before .before .before .before .loop .inv .2,
-  part-more (c .before .before .before .before .before .before .before .before .before .before .before .before .before .before .before .before .before .args .t .now) (nodeAt (c .before .before .before .before .before .before .before .before .before .before .before .before .before .before .before .before .before .args .records .now) (c .before .before .before .before .before .before .before .before .before .before .before .before .before .before .before .before .before .args .names .now) (c .before .before .before .before .before .before .before .before .before .before .before .before .before .before .before .before .before .args .left - 1)) (c .before .before .before .before .before .before .before .before .before .before .record-at .result .count) (c .before .before .before .before .before .before .before .before .before .row-of .result) (c .before .before .before .before .before .before .before .before .loop .j) (c .before .before .before .before .before .before .before .before .loop .at) _ _ (c .before .before .before .before .before .before .before .loop-test .taken) (c .before .before .before .before .before .before .cell .ensures) (c .before .before .before .before .before .if1 .left) (c .before .before .before .before .times .ensures) (c .before .before .before .before .before .before .before .before .loop .inv .3) (c .before .before .before .run .ensures) (c .before .next2 .given .1),
+  part-step (c .before .before .before .before .before .before .before .before .before .before .before .before .before .before .before .before .before .args .t .now) (nodeAt (c .before .before .before .before .before .before .before .before .before .before .before .before .before .before .before .before .before .args .records .now) (c .before .before .before .before .before .before .before .before .before .before .before .before .before .before .before .before .before .args .names .now) (c .before .before .before .before .before .before .before .before .before .before .before .before .before .before .before .before .before .args .left - 1)) (c .before .before .before .before .before .before .before .before .before .before .record-at .result .count) (c .before .before .before .before .before .before .before .before .before .row-of .result) (c .before .before .before .before .before .before .before .before .loop .j) (c .before .before .before .before .before .before .before .before .loop .at) _ _ (c .before .before .before .before .before .before .before .loop-test .taken) (c .before .before .before .before .before .before .cell .ensures) (c .before .before .before .before .before .if1 .left) (c .before .before .before .before .times .ensures) (c .before .before .before .before .before .before .before .before .loop .inv .3) (c .before .before .before .run .ensures) (c .before .next2 .given .1),
 )
 
 node-returns-4 : (t : ℕ) → node-lts.Need-returns-4 (
@@ -451,7 +451,7 @@ run-returns :
     (t : ℕ) →
     run-lts.Need-returns (node-below t, node.Post) (run-at t) run.Post run-Inv-loop run-μ-loop
 run-returns t c =
-    sym (run-stop _ _ _ (c .before .before .before .before .before .loop .k) (c .before .before .before .before .before .loop .at) (c .before .before .before .before .loop-test .taken) (c .before .before .before .before .before .loop .inv .1) (sym (c .before .before .before .node .ensures) ∙ c .before .x .given .1))
+    sym (run-step _ _ _ (c .before .before .before .before .before .loop .k) (c .before .before .before .before .before .loop .at) (c .before .before .before .before .loop-test .taken) (c .before .before .before .before .before .loop .inv .1) (sym (c .before .before .before .node .ensures) ∙ c .before .x .given .1))
 
 run-add-k :
     (t : ℕ) →
@@ -467,7 +467,7 @@ run-loop-again :
     (t : ℕ) →
     run-lts.Need-loop-again (node-below t, node.Post) (run-at t) run.Post run-Inv-loop run-μ-loop
 run-loop-again t c =
-    (omega arith, run-more _ _ _ (c .before .before .before .before .before .loop .k) (c .before .before .before .before .before .loop .at) (c .before .before .before .before .loop-test .taken) (c .before .before .before .before .before .loop .inv .1) (sym (c .before .before .before .node .ensures) ∙ c .before .next .given .1))
+    (omega arith, run-step _ _ _ (c .before .before .before .before .before .loop .k) (c .before .before .before .before .before .loop .at) (c .before .before .before .before .loop-test .taken) (c .before .before .before .before .before .loop .inv .1) (sym (c .before .before .before .node .ensures) ∙ c .before .next .given .1))
 
 run-returns-2 :
     (t : ℕ) →
