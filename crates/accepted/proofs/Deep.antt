@@ -45,9 +45,9 @@ unary-here : (bs : List ℕ) → recordAt (unary ++ bs) 0 ≡ record { kind = 7;
 unfolding recordIn
 unary-here bs = let n = count-behind unary bs refl in record-here (unary ++ bs) 0 (omega arith)
 
-bind-next : (x : Checked) → bind x (λ m. Next m) ≡ x
-bind-next (Next m) = refl
-bind-next (Refused x p) = refl
+bind-done : (x : Checked) → bind x (λ m. Next m) ≡ x
+bind-done (Next m) = refl
+bind-done (Refused x p) = refl
 
 -- it takes a level and a record
 over : (bs : List ℕ) (left : ℕ) → node (unary ++ bs) names (suc left) Class.expr 0 ≡ later (node bs names left Class.expr 0)
@@ -55,7 +55,7 @@ unfolding computing
 over bs left =
     let n = count-behind unary bs refl in
     passes (unary ++ bs) names Class.expr 0 _ (omega arith) (unary-here bs) left (rw (eqb·suc-zero left) refl)
-    ∙ bind-next (node (unary ++ bs) names left Class.expr 1)
+    ∙ bind-done (node (unary ++ bs) names left Class.expr 1)
     ∙ node-later unary bs refl names left Class.expr 0
 
 no-level : (n : ℕ) → node (chain n) names 0 Class.expr 0 ≡ Refused Why.TooDeep 0

@@ -54,9 +54,9 @@ module _ (r bs : List ℕ) (one : length r ≡ recordSize) where
     b = four-behind (q + 8) (p + 8) (omega arith) t;
   }
 
-  pub record-behind : (i : ℕ) → recordAt (r ++ bs) (suc i) ≡ recordAt bs i
+  pub record-later : (i : ℕ) → recordAt (r ++ bs) (suc i) ≡ recordAt bs i
   unfolding recordAt
-  record-behind i = rw (count-behind, leb·suc-suc (suc i) (recordCount bs), in-behind (recordSize * suc i) (recordSize * i) (omega arith)) refl
+  record-later i = rw (count-behind, leb·suc-suc (suc i) (recordCount bs), in-behind (recordSize * suc i) (recordSize * i) (omega arith)) refl
 
   module _ (names : List ℕ) where
     judged-later : (i : ℕ) (b : Bool) (f : Option Refusal)
@@ -68,7 +68,7 @@ module _ (r bs : List ℕ) (one : length r ≡ recordSize) where
     alone-later : (left : ℕ) (c : Class) (i : ℕ) → alone (r ++ bs) names left c (suc i) ≡ later (alone bs names left c i)
     unfolding alone
     alone-later left c i =
-        rw (count-behind, leb·suc-suc (suc i) (recordCount bs), record-behind i)
+        rw (count-behind, leb·suc-suc (suc i) (recordCount bs), record-later i)
         (judged-later i (ltb i (recordCount bs)) (faultOf names left c (recordAt bs i)))
 
     pub node-later : (left : ℕ) (c : Class) (i : ℕ) → node (r ++ bs) names left c (suc i) ≡ later (node bs names left c i)
@@ -79,4 +79,4 @@ module _ (r bs : List ℕ) (one : length r ≡ recordSize) where
         let f = node (r ++ bs) names left in
         let g = node bs names left in
         let behind = each-later f g (node-later left) cs in
-        rw (alone-later (suc left) c i, record-behind i) (bind-later (alone bs names (suc left) c i) (each f cs) (each g cs) behind)
+        rw (alone-later (suc left) c i, record-later i) (bind-later (alone bs names (suc left) c i) (each f cs) (each g cs) behind)
