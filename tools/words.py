@@ -2,17 +2,17 @@
 """Writes what follows from the word list in crates/words/specs (Table, Word, Symbol):
 
     src/rows.rt             the table, and where its sections begin
-    src/chains.rt           the three functions by which a fixed word is looked for
-    proofs/chains/*/Proof   the proofs of these three, whose answers are one line, repeated for each arm
-    proofs/Listed           the numbers that these proofs compute with
+    proofs/Listed           how many of each there are
     proofs/Sections         one law a section, which ties the rows to the list
 
-Run it from the repository's root after a change of the list. Nothing here is trusted: the check proves all of it against the list."""
+Run it from the repository's root after a change of the list; `words.py --check` only says whether the files are what it would write. Two words with one slot are an
+error: `words.py --slot` then finds other factors for `slot` (here and in specs/Slot). Nothing here is trusted: the check proves all of it against the list."""
+import itertools
 import re
 import sys
 
 CRATE = 'crates/words/'
-WIDEST, BUCKETS = 23, 128  # as specs/Table and specs/Bucket have them
+WIDEST, SLOTS, FACTORS = 23, 512, (16, 16, 1, 1, 64)  # as specs/Table and specs/Slot have them
 
 
 # ---- the list
@@ -51,22 +51,36 @@ for name, file, entries, kind, function in SECTIONS:
 words = rows[:words_count]
 lone = [(w, w.strip('«»'), starts['lone'] + k) for k, w in enumerate(listed('Word', 'loneWords'))]
 
-# what a definition must unfold for the words, and for all texts, to be seen
-WORDS = 'fixedWords typeKeywords otherWords qualifierWords jumpWords boolWords loneWords wordText'
-TEXTS = 'texts ' + WORDS + ' operators symbolText unaryOperators binaryOperators assignmentOperators'
+# what a definition must unfold for all texts to be seen
+TEXTS = ('texts fixedWords typeKeywords otherWords qualifierWords jumpWords boolWords loneWords wordText'
+         ' operators symbolText unaryOperators binaryOperators assignmentOperators')
 
 
 # ---- what follows from it
 
-def bucket(word):
-    return (5 * ord(word[0]) + 7 * ord(word[-1]) + 3 * len(word)) % BUCKETS
+def slot_bytes(word):
+    """The bytes that a word's slot goes by: the first, the fourth and the fifth (or the last, where there are fewer), the last but one and the last."""
+    return [ord(word[min(i, len(word) - 1)]) for i in (0, 3, 4)] + [ord(word[-2]), ord(word[-1])]
 
 
-buckets = [bucket(w) for w in words]
-# the arms of the three functions
-lengths = sorted({(ord(w[0]), sum({1 << len(v) for v in words if v[0] == w[0]})) for w in words})
-first = sorted({(b, buckets.index(b)) for b in buckets})
-following = [(k, buckets.index(b, k + 1)) for k, b in enumerate(buckets) if b in buckets[k + 1:]]
+def slot(word, factors=FACTORS):
+    return sum(factor * byte for factor, byte in zip(factors, slot_bytes(word))) % SLOTS
+
+
+def apart(factors):
+    """Has each word a slot of its own?"""
+    taken = set()
+    return all(not (at in taken or taken.add(at)) for at in (slot(word, factors) for word in words))
+
+
+if sys.argv[1:] == ['--slot']:
+    print(next(filter(apart, itertools.product([1 << k for k in range(9)], repeat=5)), 'none among the powers of two'))
+    sys.exit()
+if not apart(FACTORS):
+    sys.exit('two fixed words have one slot')
+row_of = {slot(word): row for row, word in enumerate(words)}
+slots = [row_of.get(at, rows.index('+')) for at in range(SLOTS)]
+flaws = [0 if re.fullmatch('[A-Za-z0-9_]', chr(byte)) else 1 for byte in range(256)]
 
 
 # ---- the files
@@ -89,56 +103,27 @@ def table():
     return '\\\n'.join('    %s\\x%02x' % (row.ljust(WIDEST), len(row)) for row in rows)
 
 
-def arms(pairs, otherwise):
-    return '\n'.join('        %d => %d,' % pair for pair in pairs) + '\n        _ => %d,' % otherwise
+def numbers(ns, width=32):
+    return '\\\n'.join('    ' + ''.join('\\x%02x' % n for n in ns[k:k + width]) for k in range(0, len(ns), width))
 
 
+first_slot = len(rows) * (WIDEST + 1)
 write('src/rows.rt', f'''// The table's bytes, and where its sections begin. Written by tools/words.py from the word list in specs/.
-pub type Words = [u8; {len(rows) * (WIDEST + 1)}];
+pub type Words = [u8; {first_slot + SLOTS + 256}];
 
 // The row at which each section begins (by variant from there on), the row of each lone word, and the number of rows.
 {constants()}
 
-// A row a line: the text, blanks, and the text's length.
+// Where the rows of the slots stand, and the flaws of the bytes.
+pub const SLOTS: usize = {first_slot};
+
+pub const FLAWS: usize = {first_slot + SLOTS};
+
+// A row a line: the text, blanks, and the text's length. Then the row for each slot, and the flaws of each byte.
 pub const TABLE: Words = *b"\\
-{table()}";
-''')
-
-write('src/chains.rt', f'''// Where in the table a fixed word is looked for. Written by tools/words.py from the word list in specs/.
-ghost use mathlib.Core.Path.{{_≡_}};
-ghost use Prim.Native.Nat.{{_+_, _<_}};
-ghost use lib.ListN.{{getD, length}};
-ghost use Rattle.words.specs.Length.{{lengthsOf}};
-ghost use Rattle.words.specs.Bucket.{{buckets, seek}};
-
-// The lengths of the fixed words that begin with x, a bit for each. (One number an arm in these three, so that each compiles to a look into a constant.)
-pub fn lengths(x: u8) -> u32
-    ensures {{ λ r. ⌜ r ≡ lengthsOf x ⌝ }}
-{{
-    match x {{
-{arms(lengths, 0)}
-    }}
-}}
-
-// The first row with a word of the bucket b, or rows::UNARY, behind the fixed words.
-pub fn first_in(b: usize) -> usize
-    requires {{ ⌜ b < {BUCKETS} ⌝ }}
-    ensures {{ λ r. ⌜ r ≡ seek 0 b ⌝ }}
-{{
-    match b {{
-{arms(first, words_count)}
-    }}
-}}
-
-// The next row behind k with a word of k's own bucket, or rows::UNARY.
-pub fn next_in(k: usize) -> usize
-    requires {{ ⌜ k < length buckets ⌝ }}
-    ensures {{ λ r. ⌜ r ≡ seek (k + 1) (getD buckets k 0) ⌝ }}
-{{
-    match k {{
-{arms(following, words_count)}
-    }}
-}}
+{table()}\\
+{numbers(slots)}\\
+{numbers(flaws)}";
 ''')
 
 
@@ -146,53 +131,12 @@ def number(name, says, n):
     return f'-- {says}\nabbrev pub {name} : ℕ\n{name} = {n}\n'
 
 
-def numbers(name, says, ns):
-    return f'-- {says}\nunfoldable pub {name} : List ℕ\n{name} = ' + ' ∷ '.join(map(str, [*ns, '[]'])) + '\n'
-
-
-def keys(pairs):
-    return [key for key, _ in reversed(pairs)]
-
-
 write('proofs/Listed.antt', '\n'.join([
-    '-- The numbers behind `lengths`, `first_in` and `next_in`. Written by tools/words.py. Assumes nothing.\n'
-    'use mathlib.Core.List.{List, [], _∷_}\nuse Prim.Native.Nat.{ℕ}\n',
+    '-- How much there is of each. Written by tools/words.py. Assumes nothing.\nuse Prim.Native.Nat.{ℕ}\n',
     number('words-count', 'how many fixed words there are', words_count),
     number('rows-count', 'how many rows the table has', len(rows)),
-    numbers('listed', 'the bucket of each fixed word', buckets),
-    numbers('lengthKeys', 'the numbers of the arms of `lengths`, from the last to the first', keys(lengths)),
-    numbers('firstKeys', 'the same of `first_in`', keys(first)),
-    numbers('nextKeys', 'and of `next_in`', keys(following))]))
-
-
-def arm_proof(function, pairs, uses, arm, arm_unfolds, rest, rest_unfolds):
-    """A proof whose needs are one `returns` for each arm, and one for all other numbers."""
-    names = ['returns'] + ['returns-%d' % k for k in range(2, len(pairs) + 2)]
-    here, result = 'Rattle.words.proofs.chains.' + function, function.replace('_', '-') + '-spec'
-    out = [f'-- `words::chains::{function}` meets its contract: each arm by computation, all other numbers by one law. Written by tools/words.py. Assumes nothing.',
-           'use mathlib.Core.Path.{refl}', *uses, f'use {here}.Statement.{{statement}}', f'use {here}.Tie as tie', '']
-    for k, name in enumerate(names, 1):
-        last = k > len(pairs)
-        out += [f'{name} : tie.Need-{name}', 'unfolding ' + (rest_unfolds if last else arm_unfolds),
-                f'{name} c = ' + (rest if last else f'{arm} (c .match .keys{k}) refl'), '']
-    out += [f'pub {result} : {{M : Type 1}} → statement M', f'{result} =', '    tie.close', '    (tie.spec'] + ['    ' + n for n in names]
-    write(f'proofs/chains/{function}/Proof.antt', '\n'.join(out) + ')\n')
-
-
-def row_proof(function, pairs, law):
-    arm_proof(function, pairs,
-              ['use Rattle.words.specs.Bucket.{before}', f'use Rattle.words.proofs.Listed.{{listed, {law}Keys}}',
-               f'use Rattle.words.proofs.Buckets.{{{law}Of, {law}-arm, {law}-rest}}'],
-              f'{law}-arm', f'{law}Of before listed', f'{law}-rest _ (c .before .pre) (c .match .rest)', f'listed {law}Keys')
-
-
-row_proof('first_in', first, 'first')
-row_proof('next_in', following, 'next')
-arm_proof('lengths', lengths,
-          ['use Rattle.words.specs.Word.{wordText, qualifierWords, jumpWords, boolWords, loneWords, otherWords}',
-           'use Rattle.words.specs.Table.{typeKeywords, fixedWords}', 'use Rattle.words.specs.Length.{lengthsIn, lengthsOf}',
-           'use Rattle.words.proofs.Listed.{lengthKeys}', 'use Rattle.words.proofs.Lengths.{length-arm, length-rest}'],
-          'length-arm', 'lengthsOf lengthsIn ' + WORDS, 'length-rest _ (c .match .rest)', 'lengthKeys')
+    number('first-slot', 'how many bytes these are, so where the slots begin', first_slot),
+    number('first-flaw', 'and where the flaws of the bytes begin', first_slot + SLOTS)]))
 
 
 def row_law(name, file, entries, kind, function):

@@ -1,18 +1,16 @@
 -- The tests of a record's contents, by the codes of the table's rows: what an arm of a `match` on a code says, and what the last arm says of all other
 -- codes. Assumes nothing.
-use mathlib.Core.Path.{_≡_, refl, sym, _∙_, ap}
+use mathlib.Core.Path.{_≡_, refl, _∙_, ap}
 use mathlib.Core.Bool.{false, not}
 use mathlib.Core.List.{List}
-use Prim.Native.Nat.{ℕ, zero, suc, _+_}
+use Prim.Native.Nat.{ℕ, zero, suc, _+_, _<_}
+use native.Mathlib.Omega.{arith}
 use lib.Dec.{eqb, ltb}
 use lib.ListN.{length}
 use Rattle.words.specs.Form.{floatForm}
-use Rattle.shapes.specs.Table.{fieldsOf, countOf}
+use Rattle.shapes.specs.Shape.{Fields}
+use Rattle.shapes.specs.Table.{cell, fieldsOf, countOf, shapeAt}
 use Rattle.accept.specs.Check.{countMissing, countSet, fieldSet, textBeyond, textMisformed}
-
--- the arm of code k
-pub by-code : {A : Type 0} (f : ℕ → A) {x y k : ℕ} → x ≡ y → x ≡ k → f k ≡ f y
-by-code f e k = ap f (sym k ∙ e)
 
 -- the last arm, for a code y that is x
 pub by-rest : {A : Type 0} (f : ℕ → A) {a : A} {x y : ℕ} → x ≡ y → a ≡ f x → a ≡ f y
@@ -45,3 +43,13 @@ misformed-rest zero s p q o = absurd (p refl)
 misformed-rest (suc zero) s p q o = absurd (q refl)
 misformed-rest (suc (suc zero)) s p q o = absurd (o refl)
 misformed-rest (suc (suc (suc x))) s p q o = refl
+
+-- the codes of no text: what holds of fields that are none
+pub no-text : (t : List ℕ) (row : ℕ) → cell t row < 2 → (P : Fields → Type 0) → P Fields.empty → P Fields.integer → P (shapeAt t row .fields)
+unfolding shapeAt
+no-text t row h P e i = by (cell t row) h
+  where
+    by : (x : ℕ) → x < 2 → P (fieldsOf x)
+    by zero h = e
+    by (suc zero) h = i
+    by (suc (suc x)) h = absurd (omega arith)

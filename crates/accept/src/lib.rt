@@ -40,6 +40,9 @@ const EXPR: u8 = 0;
 
 const UNIT: u8 = 26;
 
+// The code of a row's fields from which on they are a text.
+const FIRST_TEXT: u8 = 2;
+
 // The parts that a row of the table has room for.
 const PARTS: usize = 4;
 
@@ -134,6 +137,10 @@ fn contents(t: &Shapes, words: &Words, names: &[u8], i: usize, row: usize, r: Re
     if count_set(t, row, r.count) | field_set(t, row, r.a, r.b) {
         return Checked::Refused(Refusal::UnusedSet, i);
     }
+    // one branch for both tests of a text, since most records have none
+    if shapes::cell(t, row) < FIRST_TEXT {
+        return Checked::Next(i + 1);
+    }
     if text_beyond(t, row, names, r.a, r.b) {
         return Checked::Refused(Refusal::TextBeyond, i);
     }
@@ -180,7 +187,7 @@ fn alone(
 }
 
 // How many children a part of a row stands for, in a record that counts n.
-fn times(part: u8, n: u16) -> usize
+pub fn times(part: u8, n: u16) -> usize
     ensures { λ r. ⌜ r ≡ ShapeTable.times part n ⌝ }
 {
     if part / 32 == 1 {

@@ -11,10 +11,12 @@ use lib.ListN.{length, getD, take, drop, replicate, length-append, length-replic
 use lib.Seq.{drop-append-add, getD-drop, getD-take, getD-at, take-at}
 use lib.Dec.{T, leb, leb→le}
 use Rattle.words.specs.Bytes.{bytes}
+use Rattle.words.specs.Letter.{flaw}
 use Rattle.words.specs.Word.{wordText, qualifierWords, jumpWords, boolWords, loneWords, otherWords}
 use Rattle.words.specs.Symbol.{symbolText, unaryOperators, binaryOperators, assignmentOperators}
+use Rattle.words.specs.Slot.{each, slots}
 use Rattle.words.specs.Table.{typeKeywords, fixedWords, operators, texts, row, rows, table, textAt, widest, width}
-use Rattle.words.proofs.Listed.{rows-count}
+use Rattle.words.proofs.Listed.{rows-count, first-flaw}
 use Rattle.words.proofs.Tests.{both-left, both-right}
 
 unfoldable fit : List String → Bool
@@ -25,15 +27,20 @@ row-length : (t : String) → length (bytes t) ≤ widest → length (row t) ≡
 row-length t h =
     simp (length-append, length-replicate) (omega arith)
 
--- from its start on the table has the row, and then the rows behind it
-from-row : (ts : List String) (k : ℕ) → T (fit ts) → k < length ts → drop (width * k) (rows ts) ≡ row (getD ts k "") ++ rows (drop (suc k) ts)
+-- from its start on the table has the row, then the rows behind it and what is more
+from-row :
+    (ts : List String) (more : List ℕ) (k : ℕ) → T (fit ts) → k < length ts
+    → drop (width * k) (rows ts ++ more) ≡ row (getD ts k "") ++ (rows (drop (suc k) ts) ++ more)
 unfolding fit
-from-row [] k t h = absurd (not-suc-le-zero h)
-from-row (x ∷ ts) zero t h = refl
-from-row (x ∷ ts) (suc k) t h =
+from-row [] more k t h = absurd (not-suc-le-zero h)
+from-row (x ∷ ts) more zero t h = append-assoc (row x) (rows ts) more
+from-row (x ∷ ts) more (suc k) t h =
     let w = leb→le _ widest (both-left (leb (length (bytes x)) widest) (fit ts) t) in
     let e : width * suc k ≡ length (row x) + width * k = omega (arith, row-length x w) in
-    ap (λ (n : ℕ). drop n (row x ++ rows ts)) e ∙ drop-append-add (row x) (rows ts) (width * k) ∙ from-row ts k (both-right (leb (length (bytes x)) widest) (fit ts) t) (le-of-suc-le-suc h)
+    ap (drop (width * suc k)) (append-assoc (row x) (rows ts) more)
+    ∙ ap (λ (n : ℕ). drop n (row x ++ (rows ts ++ more))) e
+    ∙ drop-append-add (row x) (rows ts ++ more) (width * k)
+    ∙ from-row ts more k (both-right (leb (length (bytes x)) widest) (fit ts) t) (le-of-suc-le-suc h)
 
 -- the longest text fits, and there are as many rows as the code says
 texts-fit : T (fit texts)
@@ -44,8 +51,8 @@ pub row-count : length texts ≡ rows-count
 unfolding texts fixedWords typeKeywords otherWords qualifierWords jumpWords boolWords loneWords operators unaryOperators binaryOperators assignmentOperators
 row-count = refl
 
-pub table-length : length table ≡ width * rows-count
-unfolding table texts fixedWords typeKeywords otherWords qualifierWords jumpWords boolWords loneWords wordText operators symbolText unaryOperators binaryOperators assignmentOperators
+pub table-length : length table ≡ first-flaw + 256
+unfolding table texts fixedWords typeKeywords otherWords qualifierWords jumpWords boolWords loneWords wordText operators symbolText unaryOperators binaryOperators assignmentOperators slots each
 table-length = refl
 
 fits-at : (ts : List String) (k : ℕ) → T (fit ts) → length (bytes (getD ts k "")) ≤ widest
@@ -66,10 +73,12 @@ no-row k h = ap bytes (List·getD-eq-default texts "" {n = k} (omega (arith, row
 
 -- the row k, in a table t
 module _ (t : List ℕ) (is : t ≡ table) (k : ℕ) (h : k < rows-count) where
-  from-here : drop (width * k) t ≡ textAt k ++ (replicate (widest - length (textAt k)) (code " ") ++ (length (textAt k) ∷ rows (drop (suc k) texts)))
+  from-here :
+      drop (width * k) t
+      ≡ textAt k ++ (replicate (widest - length (textAt k)) (code " ") ++ (length (textAt k) ∷ (rows (drop (suc k) texts) ++ (slots fixedWords ++ each flaw 0 256))))
   unfolding table textAt
   from-here =
-      ap (drop (width * k)) is ∙ from-row texts k texts-fit (omega (arith, row-count))
+      ap (drop (width * k)) is ∙ from-row texts _ k texts-fit (omega (arith, row-count))
       ∙ simp append-assoc
 
   pub length-here : getD t (width * k + widest) 0 ≡ length (textAt k)

@@ -1,7 +1,7 @@
 -- The rule of the table: a computed test of all its words, and the laws that make of a test what holds at each row. The fixed words have the form of words;
 -- the texts of a section that passes `different` are different. (That no text is longer than the widest is `text-fits` of Places.) Assumes nothing.
 use mathlib.Core.Path.{_≡_, refl, sym, _∙_, ap, subst}
-use mathlib.Core.Bool.{Bool, true, false, not, _&&_, and-false}
+use mathlib.Core.Bool.{Bool, true, false, not, _&&_}
 use mathlib.Core.List.{List, [], _∷_}
 use Prim.Native.Nat.{ℕ, zero, suc, _+_, _<_}
 use Prim.Native.String.{String}
@@ -17,9 +17,9 @@ use Rattle.words.proofs.Places.{section-text}
 use Rattle.words.proofs.Search.{everyWord, none-of}
 use Rattle.words.proofs.Tests.{both-left, both-right, either-left, either-right}
 
--- 1 to 23 letters, digits and underscores, no digit first
+-- 2 to 23 letters, digits and underscores, no digit first
 unfoldable pub wordForm : List ℕ → Bool
-wordForm s = between 1 widest (length s) && not (digit (getD s 0 0)) && all nameByte s
+wordForm s = between 2 widest (length s) && not (digit (getD s 0 0)) && all nameByte s
 
 words-well-formed : T (everyWord wordForm fixedWords)
 unfolding everyWord wordForm digit letter nameByte all fixedWords typeKeywords otherWords qualifierWords jumpWords boolWords loneWords wordText
@@ -35,14 +35,10 @@ every-at f (w ∷ ws) t (suc k) h = every-at f ws (both-right (f (bytes w)) (eve
 pub well-formed : (k : ℕ) → k < length fixedWords → T (wordForm (bytes (getD fixedWords k "")))
 well-formed = every-at wordForm fixedWords words-well-formed
 
--- so that what is empty, or longer than a row holds, is no fixed word
-pub none-empty : (s : List ℕ) → length s ≡ 0 → oneOf fixedWords s ≡ false
+-- so that what has less than two bytes is no fixed word
+pub none-short : (s : List ℕ) → length s < 2 → oneOf fixedWords s ≡ false
 unfolding wordForm
-none-empty s e = none-of wordForm fixedWords s words-well-formed (rw e)
-
-pub none-longer : (s : List ℕ) → widest < length s → oneOf fixedWords s ≡ false
-unfolding wordForm
-none-longer s h = none-of wordForm fixedWords s words-well-formed (simp (lt-leb (length s) widest h, and-false))
+none-short s h = none-of wordForm fixedWords s words-well-formed (simp (lt-leb 2 (length s) h))
 
 -- each different from all behind it
 unfoldable pub different : List String → Bool
@@ -54,7 +50,7 @@ unfolding same
 same-self [] = tt
 same-self (x ∷ s) = subst (λ (b : Bool). T (b && same s s)) (sym (eq-eqb x x refl)) (same-self s)
 
-is-one : (ws : List String) (s : List ℕ) (k : ℕ) → k < length ws → bytes (getD ws k "") ≡ s → T (oneOf ws s)
+pub is-one : (ws : List String) (s : List ℕ) (k : ℕ) → k < length ws → bytes (getD ws k "") ≡ s → T (oneOf ws s)
 unfolding oneOf
 is-one [] s k h e = absurd (not-suc-le-zero h)
 is-one (w ∷ ws) s zero h e = either-left (same (bytes w) s) (oneOf ws s) (subst (λ (u : List ℕ). T (same (bytes w) u)) e (same-self (bytes w)))

@@ -5,8 +5,9 @@ use Prim.Native.Nat.{ℕ}
 use Prim.Native.Char.{code}
 use Prim.Native.String.{String}
 use lib.ListN.{length, getD}
-use lib.Dec.{leb, eqb}
+use lib.Dec.{eqb}
 use Rattle.words.specs.Bytes.{bytes}
+unfoldable pub use Rattle.words.specs.Letter.{between, digit, letter, nameByte}
 use Rattle.words.specs.Table.{fixedWords}
 
 -- how long a name and a float's text may be
@@ -15,18 +16,6 @@ longest-name = 255
 
 abbrev pub longest-float : ℕ
 longest-float = 400
-
-abbrev pub between : ℕ → ℕ → ℕ → Bool
-between low high x = leb low x && leb x high
-
-unfoldable pub digit : ℕ → Bool
-digit x = between (code "0") (code "9") x
-
-unfoldable pub letter : ℕ → Bool
-letter x = between (code "a") (code "z") x || between (code "A") (code "Z") x
-
-unfoldable pub nameByte : ℕ → Bool
-nameByte x = letter x || digit x || eqb x (code "_")
 
 unfoldable pub all : (ℕ → Bool) → List ℕ → Bool
 all f [] = true

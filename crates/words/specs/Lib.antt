@@ -1,7 +1,7 @@
 pub mod Bytes
+pub mod Letter
 pub mod Word
 pub mod Symbol
+pub mod Slot
 pub mod Table
 pub mod Form
-pub mod Length
-pub mod Bucket

@@ -1,13 +1,15 @@
 -- The constant table of words and operators: one row each, at a fixed width, with its length (01, "Forms to follow": "a constant table of 51
--- words"). Assumes nothing.
+-- words"); and what tells a name from a word, behind the rows. Assumes nothing.
 use mathlib.Core.List.{List, [], _∷_, _++_, map}
 use Prim.Native.Nat.{ℕ, _-_}
 use Prim.Native.Char.{code}
 use Prim.Native.String.{String}
 use lib.ListN.{length, getD, replicate}
 use Rattle.words.specs.Bytes.{bytes}
+use Rattle.words.specs.Letter.{flaw}
 use Rattle.words.specs.Word.{otherWords}
 use Rattle.words.specs.Symbol.{symbolText, unaryOperators, binaryOperators, assignmentOperators}
+use Rattle.words.specs.Slot.{each, slots}
 
 -- 01, "Tree records": the 51 type keywords, by variant of kind 21
 unfoldable pub typeKeywords : List String
@@ -47,8 +49,9 @@ abbrev pub rows : List String → List ℕ
 rows [] = []
 rows (t ∷ ts) = row t ++ rows ts
 
+-- the rows; behind them the row for each slot of the fixed words, and the flaws of each byte
 unfoldable pub table : List ℕ
-table = rows texts
+table = rows texts ++ (slots fixedWords ++ each flaw 0 256)
 
 -- the text of row k, nothing behind the last
 unfoldable pub textAt : ℕ → List ℕ

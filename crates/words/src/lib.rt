@@ -1,25 +1,28 @@
 // The words and operators that a printer writes, in one table, and the form of a name and of a float's text.
 // A public call of a crate above makes the table once, `let t = words::table();`, and lends it down, `&t`: a constant array that is indexed
-// in place would be built anew at each use. What follows from the word list of specs/ is written by tools/words.py, in rows.rt and chains.rt.
+// in place would be built anew at each use. What follows from the word list of specs/ is written by tools/words.py, in rows.rt.
 ghost use mathlib.Core.Path.{_≡_};
-ghost use Prim.Native.Nat.{_<_, _≤_};
-ghost use lib.ListN.{length, drop};
+ghost use Prim.Native.Nat.{_+_, _<_, _≤_};
+ghost use lib.ListN.{length, take, drop};
+ghost use Rattle.words.specs.Letter.{flaw};
+ghost use Rattle.words.specs.Slot.{byteOrLast, slot};
 ghost use Rattle.words.specs.Table as Table;
-ghost use Rattle.words.specs.Length.{mayBeWord};
-ghost use Rattle.words.specs.Bucket.{bucket};
 ghost use Rattle.words.specs.Form as Form;
 
-mod chains;
 pub mod rows;
 
+use rows::FLAWS;
 use rows::ROWS;
+use rows::SLOTS;
 use rows::TABLE;
-use rows::UNARY;
 use rows::Words;
 
 const WIDTH: usize = 24;
 
 const WIDEST: usize = 23;
+
+// How many bytes of a name are looked at in one loop, whose length is constant, so that it compiles to no loop.
+const AT_ONCE: usize = 8;
 
 const LONGEST_NAME: usize = 255;
 
@@ -65,32 +68,75 @@ fn is_digit(x: u8) -> bool
     is_between(b'0', b'9', x)
 }
 
-fn is_letter(x: u8) -> bool
-    ensures { λ r. ⌜ r ≡ Form.letter x ⌝ }
+// The byte i of s, or its last.
+fn byte_or_last(s: &[u8], i: usize) -> u8
+    requires { ⌜ 0 < length (now s) ⌝ }
+    ensures { λ r. ⌜ r ≡ byteOrLast (now (s .entry)) i ⌝ }
 {
-    is_between(b'a', b'z', x) | is_between(b'A', b'Z', x)
+    let last = s.len() - 1;
+    if i < last {
+        return s[i];
+    }
+    s[last]
 }
 
-fn is_name_byte(x: u8) -> bool
-    ensures { λ r. ⌜ r ≡ Form.nameByte x ⌝ }
+// 0 for a byte that a name may have, 1 for any other, as the lent table has it. (To compare it with the bounds of letters and digits takes twice as long.)
+fn flaws_of(table: &Words, x: u8) -> u8
+    requires { ⌜ now table ≡ Table.table ⌝ }
+    ensures { λ r. ⌜ (r ≡ flaw x) × (r ≤ 1) ⌝ }
 {
-    is_letter(x) | is_digit(x) | (x == b'_')
+    let bytes: &[u8] = table;
+    bytes[FLAWS + wide(x)]
 }
 
-// No early return: a name is short, and a branch on each byte costs more than it saves.
-fn all_name_bytes(s: &[u8]) -> bool
+// Whether all bytes are a name's, where they are few: the last is looked at again and again instead of a branch on the length.
+fn few_name_bytes(table: &Words, s: &[u8]) -> bool
+    requires { ⌜ (now table ≡ Table.table) × (0 < length (now s)) × (length (now s) ≤ 8) ⌝ }
     ensures { λ r. ⌜ r ≡ Form.all Form.nameByte (now (s .entry)) ⌝ }
 {
-    let mut ok = true;
-    let mut i = 0;
-    while i < s.len() {
-        ok = ok & is_name_byte(s[i]);
+    let mut flaws: u8 = 0;
+    let mut i: usize = 0;
+    while i < AT_ONCE {
+        flaws = flaws + flaws_of(table, byte_or_last(s, i));
         i += 1;
     }
-    ok
+    flaws == 0
 }
 
-fn same(a: &[u8], b: &[u8]) -> bool
+// Whether the 8 bytes from `start` on are a name's.
+fn next_name_bytes(table: &Words, s: &[u8], start: usize) -> bool
+    requires { ⌜ (now table ≡ Table.table) × (start + 8 ≤ length (now s)) ⌝ }
+    ensures { λ r. ⌜ r ≡ Form.all Form.nameByte (take 8 (drop start (now (s .entry)))) ⌝ }
+{
+    let mut flaws: u8 = 0;
+    let mut i: usize = 0;
+    while i < AT_ONCE {
+        flaws = flaws + flaws_of(table, s[start + i]);
+        i += 1;
+    }
+    flaws == 0
+}
+
+// No early return: a name is short, and a branch costs more than it saves. The last 8 bytes may be looked at twice.
+fn all_name_bytes(table: &Words, s: &[u8]) -> bool
+    requires { ⌜ (now table ≡ Table.table) × (0 < length (now s)) ⌝ }
+    ensures { λ r. ⌜ r ≡ Form.all Form.nameByte (now (s .entry)) ⌝ }
+{
+    let n = s.len();
+    if n <= AT_ONCE {
+        return few_name_bytes(table, s);
+    }
+    let mut ok = true;
+    let mut i: usize = 0;
+    while i < n - AT_ONCE {
+        ok = ok & next_name_bytes(table, s, i);
+        i += AT_ONCE;
+    }
+    ok & next_name_bytes(table, s, n - AT_ONCE)
+}
+
+// Whether two texts are the same.
+pub fn same(a: &[u8], b: &[u8]) -> bool
     ensures { λ r. ⌜ r ≡ Form.same (now (a .entry)) (now (b .entry)) ⌝ }
 {
     if a.len() != b.len() {
@@ -106,45 +152,26 @@ fn same(a: &[u8], b: &[u8]) -> bool
     true
 }
 
-// Whether a fixed word begins as s does and is as long. This alone tells most names from all fixed words.
-fn may_be_word(s: &[u8]) -> bool
-    requires { ⌜ (0 < length (now s)) × (length (now s) ≤ Table.widest) ⌝ }
-    ensures { λ r. ⌜ r ≡ mayBeWord (now (s .entry)) ⌝ }
-{
-    let n = s.len() as u32;
-    (chains::lengths(s[0]) >> n) % 2 == 1
-}
-
-fn bucket_of(s: &[u8]) -> usize
-    requires { ⌜ (0 < length (now s)) × (length (now s) ≤ Table.widest) ⌝ }
-    ensures { λ r. ⌜ r ≡ bucket (now (s .entry)) ⌝ }
+fn slot_of(s: &[u8]) -> usize
+    requires { ⌜ 2 ≤ length (now s) ⌝ }
+    ensures { λ r. ⌜ r ≡ slot (now (s .entry)) ⌝ }
 {
     let n = s.len();
-    (5 * wide(s[0]) + 7 * wide(s[n - 1]) + 3 * n) % 128
+    let front = 16 * (wide(s[0]) + wide(byte_or_last(s, 3)));
+    (front + 64 * wide(s[n - 1]) + wide(s[n - 2]) + wide(byte_or_last(s, 4))) % 512
 }
 
-// Whether s is a fixed word. Only the words of its own bucket are compared.
+// Whether s is a fixed word. Only the word of its slot is compared.
 pub fn is_fixed_word(table: &Words, s: &[u8]) -> bool
     requires { ⌜ now table ≡ Table.table ⌝ }
     ensures { λ r. ⌜ r ≡ Form.oneOf Table.fixedWords (now (s .entry)) ⌝ }
 {
-    if s.len() == 0 {
+    if s.len() < 2 {
         return false;
     }
-    if WIDEST < s.len() {
-        return false;
-    }
-    if !may_be_word(s) {
-        return false;
-    }
-    let mut k = chains::first_in(bucket_of(s));
-    while k < UNARY {
-        if same(row(table, k), s) {
-            return true;
-        }
-        k = chains::next_in(k);
-    }
-    false
+    let bytes: &[u8] = table;
+    let k = wide(bytes[SLOTS + slot_of(s)]);
+    same(row(table, k), s)
 }
 
 // Whether s has the form of a name, with the table lent.
@@ -161,7 +188,7 @@ pub fn name_form(table: &Words, s: &[u8]) -> bool
     if is_digit(s[0]) {
         return false;
     }
-    if !all_name_bytes(s) {
+    if !all_name_bytes(table, s) {
         return false;
     }
     !is_fixed_word(table, s)

@@ -2,7 +2,8 @@
 use Prim.Native.Nat.{ℕ}
 use Rattle.shapes.specs.Table.{countOf, shapeAt}
 use Rattle.accept.specs.Check.{countMissing}
-use Rattle.accept.proofs.Codes.{by-code, by-rest, missing-rest}
+use Rattle.records.proofs.Arms.{by-code}
+use Rattle.accept.proofs.Codes.{by-rest, missing-rest}
 use borrow.Author.Needs.{needs}
 use Rattle.accept.proofs.count_missing.Statement.{statement}
 use Rattle.accept.proofs.count_missing.Tie as tie

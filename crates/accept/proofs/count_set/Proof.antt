@@ -2,7 +2,8 @@
 use Prim.Native.Nat.{ℕ}
 use Rattle.shapes.specs.Table.{countOf, shapeAt}
 use Rattle.accept.specs.Check.{countSet}
-use Rattle.accept.proofs.Codes.{by-code, by-rest, count-set-rest}
+use Rattle.records.proofs.Arms.{by-code}
+use Rattle.accept.proofs.Codes.{by-rest, count-set-rest}
 use borrow.Author.Needs.{needs}
 use Rattle.accept.proofs.count_set.Statement.{statement}
 use Rattle.accept.proofs.count_set.Tie as tie

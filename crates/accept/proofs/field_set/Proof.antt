@@ -2,7 +2,8 @@
 use Prim.Native.Nat.{ℕ}
 use Rattle.shapes.specs.Table.{fieldsOf, shapeAt}
 use Rattle.accept.specs.Check.{fieldSet}
-use Rattle.accept.proofs.Codes.{by-code, by-rest, field-set-rest}
+use Rattle.records.proofs.Arms.{by-code}
+use Rattle.accept.proofs.Codes.{by-rest, field-set-rest}
 use borrow.Author.Needs.{needs}
 use Rattle.accept.proofs.field_set.Statement.{statement}
 use Rattle.accept.proofs.field_set.Tie as tie

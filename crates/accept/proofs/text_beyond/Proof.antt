@@ -2,7 +2,8 @@
 use Prim.Native.Nat.{ℕ}
 use Rattle.shapes.specs.Table.{fieldsOf, shapeAt}
 use Rattle.accept.specs.Check.{textBeyond}
-use Rattle.accept.proofs.Codes.{by-code, by-rest, beyond-rest}
+use Rattle.records.proofs.Arms.{by-code}
+use Rattle.accept.proofs.Codes.{by-rest, beyond-rest}
 use borrow.Author.Needs.{needs}
 use Rattle.accept.proofs.text_beyond.Statement.{statement}
 use Rattle.accept.proofs.text_beyond.Tie as tie

@@ -4,7 +4,8 @@ use mathlib.Core.Bool.{not}
 use Prim.Native.Nat.{ℕ}
 use Rattle.shapes.specs.Table.{fieldsOf, shapeAt}
 use Rattle.accept.specs.Check.{textMisformed}
-use Rattle.accept.proofs.Codes.{by-code, by-rest, misformed-rest}
+use Rattle.records.proofs.Arms.{by-code}
+use Rattle.accept.proofs.Codes.{by-rest, misformed-rest}
 use borrow.Author.Needs.{needs}
 use Rattle.accept.proofs.text_misformed.Statement.{statement}
 use Rattle.accept.proofs.text_misformed.Tie as tie

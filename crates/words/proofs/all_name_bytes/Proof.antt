@@ -1,29 +1,34 @@
 -- `words::all_name_bytes` meets its contract. The invariant: the answer is what was found so far and what is left. Assumes nothing.
-use mathlib.Core.Path.{_≡_, refl, sym}
+use mathlib.Core.Path.{_≡_, refl}
 use mathlib.Core.Bool.{_&&_}
-use Prim.Native.Nat.{_≤_, _-_}
+use Prim.Native.Nat.{_-_}
 use native.Mathlib.Omega.{arith}
-use borrow.Author.Needs.{needs}
-use lib.ListN.{length, drop}
+use lib.ListN.{drop}
 use Rattle.words.specs.Form.{all, nameByte}
-use Rattle.words.proofs.Laws.{all-more, all-done}
+use Rattle.words.proofs.Flaws.{all-next, all-last}
 use Rattle.words.proofs.all_name_bytes.Statement.{statement}
 use Rattle.words.proofs.all_name_bytes.Tie as tie
 
 abbrev Inv-loop : tie.InvT-loop
-Inv-loop s ok₀ i₀ ok i = (i ≤ length s) × (all nameByte s ≡ ok && all nameByte (drop i s))
+Inv-loop table s n ok₀ i₀ ok i = all nameByte s ≡ ok && all nameByte (drop i s)
 
 abbrev μ-loop : tie.MeasureT-loop
-μ-loop s ok₀ i₀ ok i = length s - i
+μ-loop table s n ok₀ i₀ ok i = n - i
+
+few-name-bytes-requires : tie.Need-few-name-bytes-requires Inv-loop μ-loop
+few-name-bytes-requires c κs = (c .before .before .pre .0, c .before .before .pre .1, c .if1 .taken)
+
+returns : tie.Need-returns Inv-loop μ-loop
+returns c = c .few-name-bytes .ensures
 
 loop-holds : tie.Need-loop-holds Inv-loop μ-loop
-loop-holds c = (omega arith, refl)
+loop-holds c = refl
 
-shared-slice-read-is-name-byte : tie.Need-shared-slice-read-is-name-byte Inv-loop μ-loop
-shared-slice-read-is-name-byte c = search needs
+sub-loop : tie.Need-sub-loop Inv-loop μ-loop
+sub-loop c = omega arith
 
-is-name-byte-requires : tie.Need-is-name-byte-requires Inv-loop μ-loop
-is-name-byte-requires c κs = search needs
+next-name-bytes-requires : tie.Need-next-name-bytes-requires Inv-loop μ-loop
+next-name-bytes-requires c κs = (c .before .before .before .before .pre .0, omega arith)
 
 add-i : tie.Need-add-i Inv-loop μ-loop
 add-i c = omega arith
@@ -32,10 +37,21 @@ loop-less : tie.Need-loop-less Inv-loop μ-loop
 loop-less c = omega arith
 
 loop-again : tie.Need-loop-again Inv-loop μ-loop
-loop-again c = (omega arith, all-more nameByte (c .before .before .before .before .before .args .s .now) (c .before .before .before .loop .ok) (c .before .before .loop-test .taken) (c .before .before .before .loop .inv .1) (c .is-name-byte .ensures))
+loop-again c =
+    let at = c .before .before .loop in
+    all-next nameByte (c .before .before .before .before .before .args .s .now) 8 (at .ok) (at .i) (at .inv) (c .next-name-bytes .ensures)
 
-returns : tie.Need-returns Inv-loop μ-loop
-returns c = sym (all-done nameByte _ _ (c .loop-test .left) (c .before .loop .inv .1))
+sub-next-name-bytes : tie.Need-sub-next-name-bytes Inv-loop μ-loop
+sub-next-name-bytes c = omega arith
+
+next-name-bytes-requires-2 : tie.Need-next-name-bytes-requires-2 Inv-loop μ-loop
+next-name-bytes-requires-2 c κs = (c .before .before .before .before .pre .0, omega arith)
+
+returns-2 : tie.Need-returns-2 Inv-loop μ-loop
+returns-2 c =
+    let at = c .before .before .loop in
+    all-last nameByte (c .before .before .before .before .before .args .s .now) 8 (at .ok) (at .i) (at .inv) (omega arith) (c .before .loop-test .left)
+    (c .next-name-bytes2 .ensures)
 
 pub all-name-bytes-spec : {M : Type 1} → statement M
 all-name-bytes-spec =
@@ -43,10 +59,14 @@ all-name-bytes-spec =
     (tie.spec
     Inv-loop
     μ-loop
+    few-name-bytes-requires
+    returns
     loop-holds
-    shared-slice-read-is-name-byte
-    is-name-byte-requires
+    sub-loop
+    next-name-bytes-requires
     add-i
     loop-less
     loop-again
-    returns)
+    sub-next-name-bytes
+    next-name-bytes-requires-2
+    returns-2)

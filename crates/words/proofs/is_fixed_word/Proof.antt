@@ -1,88 +1,56 @@
--- `words::is_fixed_word` meets its contract. The invariant: s is a fixed word if it is one from row k on, and k's word is of its bucket; each step goes to a later row. Assumes nothing.
-use mathlib.Core.Path.{_≡_, sym, _∙_, ap}
+-- `words::is_fixed_word` meets its contract: the word of its slot is the only one that s can be. Assumes nothing.
+use mathlib.Core.Path.{sym, _∙_, ap}
 use mathlib.Core.List.{List}
-use Prim.Native.Nat.{ℕ, _-_}
+use Prim.Native.Nat.{ℕ}
 use native.Mathlib.Omega.{arith}
-use borrow.Author.Needs.{needs}
-use borrow.Author.Tests.{not-true}
 use Rattle.words.specs.Form as Form
-use Rattle.words.specs.Table.{textAt}
-use Rattle.words.proofs.Listed.{words-count}
-use Rattle.words.proofs.Rule.{none-empty, none-longer}
-use Rattle.words.proofs.Lengths.{none-other}
-use Rattle.words.proofs.Search.{Stands, starts, finds, goes-on, ends, is-bucketed}
+use Rattle.words.specs.Table.{fixedWords}
+use Rattle.words.specs.Slot.{rowIn}
+use Rattle.words.proofs.Rule.{none-short}
+use Rattle.words.proofs.Slots.{slot-here, found}
+use borrow.Author.Needs.{needs}
 use Rattle.words.proofs.is_fixed_word.Statement.{statement}
 use Rattle.words.proofs.is_fixed_word.Tie as tie
 
-abbrev Inv-loop : tie.InvT-loop
-Inv-loop table s k₀ k = Stands s k
+returns : tie.Need-returns
+returns c = sym (none-short _ (c .if1 .taken))
 
-abbrev μ-loop : tie.MeasureT-loop
-μ-loop table s k₀ k = words-count - k
+slot-of-requires : tie.Need-slot-of-requires
+slot-of-requires c κs = search needs
 
-returns : tie.Need-returns Inv-loop μ-loop
-returns c = sym (none-empty _ (c .if1 .taken))
+add-wide : tie.Need-add-wide
+add-wide c = search needs
 
-returns-2 : tie.Need-returns-2 Inv-loop μ-loop
-returns-2 c = sym (none-longer _ (c .if2 .taken))
+shared-slice-read-wide : tie.Need-shared-slice-read-wide
+shared-slice-read-wide c = search needs
 
-may-be-word-requires : tie.Need-may-be-word-requires Inv-loop μ-loop
-may-be-word-requires c κs = (omega arith, omega arith)
+wide-requires : tie.Need-wide-requires
+wide-requires c κs = search needs
 
-returns-3 : tie.Need-returns-3 Inv-loop μ-loop
-returns-3 c = sym (none-other _ (sym (c .before .may-be-word .ensures) ∙ not-true _ (c .if3 .taken)))
+row-requires : tie.Need-row-requires
+row-requires c κs = search needs
 
-bucket-of-requires : tie.Need-bucket-of-requires Inv-loop μ-loop
-bucket-of-requires c κs = (omega arith, omega arith)
-
-first-in-requires : tie.Need-first-in-requires Inv-loop μ-loop
-first-in-requires c κs = omega (arith, c .bucket-of .ensures)
-
-loop-holds : tie.Need-loop-holds Inv-loop μ-loop
-loop-holds c = starts _ (c .before .bucket-of .ensures) (c .first-in .ensures)
-
-row-requires : tie.Need-row-requires Inv-loop μ-loop
-row-requires c κs = c .before .before .before .before .before .before .before .before .before .pre
-
-same-requires : tie.Need-same-requires Inv-loop μ-loop
+same-requires : tie.Need-same-requires
 same-requires c κs = search needs
 
--- the word of row k was compared
-compared : (c : tie.After-same Inv-loop μ-loop) → Form.same (textAt (c .before .before .before .loop .k)) (c .before .before .before .before .before .before .before .before .before .before .before .args .s .now) ≡ c .same .result
-compared c = ap (λ (u : List ℕ). Form.same u (c .before .before .before .before .before .before .before .before .before .before .before .args .s .now)) (sym (c .before .row .ensures)) ∙ sym (c .same .ensures)
-
-returns-4 : tie.Need-returns-4 Inv-loop μ-loop
-returns-4 c = sym (finds (c .before .before .before .before .loop .inv) (c .before .before .before .loop-test .taken) (compared (c .before) ∙ c .if4 .taken))
-
-next-in-requires : tie.Need-next-in-requires Inv-loop μ-loop
-next-in-requires c κs = is-bucketed _ (c .before .before .before .loop-test .taken)
-
-loop-less : tie.Need-loop-less Inv-loop μ-loop
-loop-less c = omega (arith, c .next-in .ensures)
-
-loop-again : tie.Need-loop-again Inv-loop μ-loop
-loop-again c = goes-on (c .before .before .before .before .before .loop .inv) (c .before .before .before .before .loop-test .taken) (compared (c .before .before) ∙ c .before .if4 .left) (c .next-in .ensures)
-
-returns-5 : tie.Need-returns-5 Inv-loop μ-loop
-returns-5 c = sym (ends (c .before .loop .inv) (c .loop-test .left))
+returns-2 : tie.Need-returns-2
+returns-2 c =
+    let start = c .before .before .before .before .before .before .before .before in
+    let s = start .args .s .now in
+    let at = c .before .before .before .before .slot-of .ensures in
+    c .same .ensures ∙ ap (λ (u : List ℕ). Form.same u s) (c .before .row .ensures)
+    ∙ found s _ (c .before .before .before .before .before .before .if1 .left)
+    (c .before .before .wide .ensures .0 ∙ slot-here _ (start .pre) _ (omega (arith, at)) ∙ ap (λ (h : ℕ). rowIn fixedWords h 0) at)
 
 pub is-fixed-word-spec : {M : Type 1} → statement M
 is-fixed-word-spec =
     tie.close
     (tie.spec
-    Inv-loop
-    μ-loop
     returns
-    returns-2
-    may-be-word-requires
-    returns-3
-    bucket-of-requires
-    first-in-requires
-    loop-holds
+    slot-of-requires
+    add-wide
+    shared-slice-read-wide
+    wide-requires
     row-requires
     same-requires
-    returns-4
-    next-in-requires
-    loop-less
-    loop-again
-    returns-5)
+    returns-2)
