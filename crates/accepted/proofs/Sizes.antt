@@ -2,6 +2,7 @@
 use mathlib.Core.Path.{_≡_, refl, _∙_, ap}
 use mathlib.Core.Bool.{Bool, true, false, not, _||_, or-true, cond}
 use mathlib.Core.List.{List}
+use mathlib.Mathlib.Data.Bool.Basic.{or-eq-false-eq-eq-false-and-eq-false as neither}
 use Prim.Native.Nat.{ℕ, _*_, _%_, _<_, _≤_}
 use native.Mathlib.Omega.{arith}
 use lib.Dec.{eqb, ltb}
@@ -75,3 +76,11 @@ module _ (records names : List ℕ) where
         let p = passed m (recordsOutOfSize records) (ltb most-name-bytes (length names)) _ e in
         let b = bind-next (node records names deepest c 0) (nothingBehind records names) m (p .2) in
         (p .0, ltb-false most-name-bytes (length names) (p .1), b .1 ∙ ap Next (nothing-behind (b .0) m (b .2)))
+
+    -- accepted records are at most 4,096
+    pub few-records : (m : ℕ) → check records names c ≡ Next m → recordCount records ≤ most-records
+    unfolding recordCount
+    few-records m e =
+        let n = length records in
+        let p = neither (eqb n 0 || not (eqb (n % recordSize) 0)) (ltb (recordSize * most-records) n) .0 (check-next m e .0) in
+        omega (arith, ltb-false (recordSize * most-records) n (p .1))

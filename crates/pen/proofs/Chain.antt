@@ -24,7 +24,7 @@ use Rattle.pen.specs.Sheet.{Sheet, leave, lay}
 use Rattle.pen.specs.Run.{stateOf, turned, asked, deeper, shallower, spaceWhere, line, whiten, step, run}
 use Rattle.pen.specs.Promise.{sheet, Wrote, Whitened, Ran, Turned}
 
-run-append : (s : Settings) (cs ds : List Command) (x : Sheet) → run s (cs ++ ds) x ≡ run s ds (run s cs x)
+pub run-append : (s : Settings) (cs ds : List Command) (x : Sheet) → run s (cs ++ ds) x ≡ run s ds (run s cs x)
 unfolding run
 run-append s [] ds x = refl
 run-append s (c ∷ cs) ds x = run-append s cs ds (step s c x)

@@ -1,4 +1,3 @@
 pub mod Lay
 pub mod Chain
-pub mod Climbs
 pub mod Written

@@ -23,7 +23,7 @@ use Rattle.pen.specs.declared.Pen.{Pen}
 use Rattle.pen.specs.Sheet.{Sheet, last-place, last-level, leave, lay}
 use Rattle.pen.specs.Run.{stateOf, turned, spaceWhere, line, whiten, step, run}
 use Rattle.pen.specs.Promise.{sheet, Ran}
-use Rattle.pen.proofs.Climbs.{climb, climbs}
+use Rattle.pen.specs.Free.{climb, climbs, Free}
 use Rattle.pen.proofs.Lay.{at-level}
 
 -- no command changes the room's length
@@ -205,7 +205,7 @@ whitespace-level White.None st = refl
 whitespace-level White.Space st = refl
 whitespace-level White.Newline st = refl
 
-after-level : (s : Settings) (c : Command) (st : FormattingState) → after s c st .«indentation_level» ≤ st .«indentation_level» + climb c
+pub after-level : (s : Settings) (c : Command) (st : FormattingState) → after s c st .«indentation_level» ≤ st .«indentation_level» + climb c
 unfolding after
 after-level s (token t) st = omega arith
 after-level s space st = omega arith
@@ -223,11 +223,7 @@ after-level s dedent st = omega arith
 after-level s enter-function-definition-statement st = omega arith
 after-level s consume-function-definition-statement st = omega arith
 
--- no number stops on the way
-pub record Free (s : Settings) (cs : List Command) (p : Pen) : Type 0 where
-  pub place : p .at + length (text s cs (p .state)) ≤ last-place
-  pub levels : p .state .«indentation_level» + climbs cs ≤ last-level
-
+-- where no number stops on the way, none stops at its first command nor behind it
 module _ (s : Settings) (c : Command) (cs : List Command) (x : Sheet) (free : Free s (c ∷ cs) (x .pen)) where
   both-places : x .pen .at + (length (written s c (stateOf x)) + length (text s cs (after s c (stateOf x)))) ≤ last-place
   unfolding text

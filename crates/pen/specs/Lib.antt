@@ -1,3 +1,4 @@
 pub mod Sheet
 pub mod Run
 pub mod Promise
+pub mod Free

@@ -10,7 +10,7 @@ pub record Sheet : Type 0 where
   pub room : List ℕ
   pub pen : Pen
 
--- where a number stops: the place at the last of 32 bits, the level at the last of 16. (That no accepted tree comes near is for the printers to show.)
+-- where a number stops: the place at the last of 32 bits, the level at the last of 16. (No accepted tree meets them: crates/bounded.)
 abbrev pub last-place : ℕ
 last-place = 2 ^ 32 - 1
 

@@ -16,7 +16,6 @@ ghost use Rattle.text.specs.Text.{show-int};
 ghost use Rattle.pen.specs.Sheet.{forward};
 ghost use Rattle.pen.specs.Promise.{Wrote, Whitened, Ran};
 use settings::FormattingState;
-use settings::IndentStyle;
 use settings::Settings;
 use settings::Whitespace;
 use words::rows::Words;
@@ -24,7 +23,7 @@ use words::rows::Words;
 // Where the next byte goes, the record to be read next, and the state of the line layout.
 pub struct Pen {
     pub at: u32,
-    pub next: u16,
+    pub next: usize,
     pub state: FormattingState,
 }
 

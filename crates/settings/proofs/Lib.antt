@@ -1,4 +1,5 @@
 pub mod Examples
 pub mod Range
+pub mod Read
 pub mod Refusal
 pub mod RoundTrip

@@ -6,3 +6,4 @@ pub mod IntText
 pub mod OnlyLayout
 pub mod Append
 pub mod At
+pub mod ByKind

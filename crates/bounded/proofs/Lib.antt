@@ -1,0 +1,12 @@
+pub mod Weight
+pub mod Texts
+pub mod Fits
+pub mod Plan
+pub mod Optional
+pub mod Exprs
+pub mod Types
+pub mod Declarations
+pub mod Statements
+pub mod Items
+pub mod Narrow
+pub mod Free
