@@ -1,0 +1,3 @@
+pub mod Shown
+pub mod Operand
+pub mod Qualifier

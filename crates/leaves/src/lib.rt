@@ -1,0 +1,181 @@
+// What the printers write between their parts: the functions of 000 that call no other printer, and parts of those that do.
+ghost use mathlib.Core.Path.{_≡_};
+ghost use mathlib.Core.Bool.{cond};
+ghost use mathlib.Core.List.{[]};
+ghost use mathlib.Core.Option.{none, some};
+ghost use Prim.Native.Nat.{_+_, _≤_, min};
+ghost use lib.Dec.{eqb};
+ghost use Rattle.words.specs.Table as Table;
+ghost use Rattle.words.specs.Symbol.{Symbol};
+ghost use Rattle.records.specs.Record.{recordAt, part};
+ghost use Rattle.settings.specs.declared.Settings.{Settings};
+ghost use Rattle.text.specs.Token.{Token};
+ghost use Rattle.text.specs.Command.{write-binary-op};
+ghost use Rattle.text.specs.Text.{unary-symbol, binary-symbol, assignment-symbol, a-token, a-word, a-symbol, bool-word, separator, space-between, show-name};
+ghost use Rattle.text.specs.Reading.{unaryOp, binaryOp, assignmentOp};
+ghost use Rattle.pen.specs.Promise.{Ran};
+ghost use Rattle.leaves.specs.Shown.{past};
+ghost use Rattle.leaves.specs.Operand.{mostUnder};
+ghost use Rattle.leaves.specs.Qualifier.{qualifierWord};
+use pen::Pen;
+use settings::Settings;
+use words::rows;
+use words::rows::Words;
+
+// The last variant of each, which stands for all behind it.
+const LAST_UNARY: u8 = 5;
+
+const LAST_BINARY: u8 = 18;
+
+const LAST_ASSIGNMENT: u8 = 10;
+
+const LAST_QUALIFIER: u8 = 26;
+
+const LAST_TYPE: u8 = 50;
+
+// The pen behind the record that stands before it, if one stands there.
+pub fn past(pen: Pen, records: &[u8]) -> Pen
+    ensures { λ r. ⌜ r ≡ past (now (records .entry)) pen ⌝ }
+{
+    if records::stands(records, pen.next) {
+        let behind = pen.next + 1;
+        let mut moved = pen;
+        moved.next = behind;
+        return moved;
+    }
+    pen
+}
+
+// The most that record i may bind as the operand of the unary operator v: plus over plus and minus over minus are bracketed.
+pub fn unary_most(records: &[u8], i: usize, v: u8) -> u8
+    ensures { λ r. ⌜ r ≡ mostUnder v (recordAt (now (records .entry)) i) ⌝ }
+{
+    let sign = (v == 2) | (v == 3);
+    if sign & (records::kind_at(records, i) == 7) & (records::variant_at(records, i) == v) {
+        return precedence::POSTFIX;
+    }
+    precedence::UNARY
+}
+
+// The row of the table that is v rows behind its section's first, or the section's last.
+fn section_row(first: usize, last: u8, v: u8) -> usize
+    requires { ⌜ first ≤ 255 ⌝ }
+    ensures { λ r. ⌜ r ≡ first + min v last ⌝ }
+{
+    if v < last {
+        return first + (v as usize);
+    }
+    first + (last as usize)
+}
+
+pub fn show_unary_op(pen: Pen, t: &Words, room: &mut [u8], v: u8) -> Pen
+    requires { ⌜ now t ≡ Table.table ⌝ }
+    ensures { λ r. ⌜ ((s : Settings) → Ran s (a-symbol (unary-symbol (unaryOp v))) (now (room .entry)) pen (now (room .exit)) r) ⌝ }
+{
+    pen.write_word(room, t, section_row(rows::UNARY, LAST_UNARY, v))
+}
+
+pub fn show_binary_op(pen: Pen, s: Settings, t: &Words, room: &mut [u8], v: u8) -> Pen
+    requires { ⌜ now t ≡ Table.table ⌝ }
+    ensures { λ r. ⌜ Ran s (write-binary-op (binary-symbol (binaryOp v))) (now (room .entry)) pen (now (room .exit)) r ⌝ }
+{
+    let text = words::row(t, section_row(rows::BINARY, LAST_BINARY, v));
+    pen.write_binary_op(room, s, text)
+}
+
+pub fn show_assignment_op(pen: Pen, s: Settings, t: &Words, room: &mut [u8], v: u8) -> Pen
+    requires { ⌜ now t ≡ Table.table ⌝ }
+    ensures { λ r. ⌜ Ran s (write-binary-op (assignment-symbol (assignmentOp v))) (now (room .entry)) pen (now (room .exit)) r ⌝ }
+{
+    let text = words::row(t, section_row(rows::ASSIGNMENT, LAST_ASSIGNMENT, v));
+    pen.write_binary_op(room, s, text)
+}
+
+// A type keyword, by its number; nothing behind the last.
+pub fn show_keyword(pen: Pen, t: &Words, room: &mut [u8], v: u8) -> Pen
+    requires { ⌜ now t ≡ Table.table ⌝ }
+    ensures { λ r. ⌜ ((s : Settings) → Ran s (a-token (Token.type v)) (now (room .entry)) pen (now (room .exit)) r) ⌝ }
+{
+    if LAST_TYPE < v {
+        return pen;
+    }
+    pen.write_word(room, t, section_row(rows::TYPES, LAST_TYPE, v))
+}
+
+pub fn show_bool(pen: Pen, t: &Words, room: &mut [u8], v: u8) -> Pen
+    requires { ⌜ now t ≡ Table.table ⌝ }
+    ensures { λ r. ⌜ ((s : Settings) → Ran s (a-word (bool-word (eqb v 1))) (now (room .entry)) pen (now (room .exit)) r) ⌝ }
+{
+    if v == 1 {
+        return pen.write_word(room, t, rows::BOOLS + 1);
+    }
+    pen.write_word(room, t, rows::BOOLS)
+}
+
+// The word of a qualifier (kind 29), by its variant: 000 show_storage_qualifier, show_precision_qualifier, show_interpolation_qualifier, and the
+// words of show_subroutine and show_layout_qualifier.
+pub fn show_qualifier_word(pen: Pen, t: &Words, room: &mut [u8], v: u8) -> Pen
+    requires { ⌜ now t ≡ Table.table ⌝ }
+    ensures { λ r. ⌜ ((s : Settings) → Ran s (a-word (qualifierWord v)) (now (room .entry)) pen (now (room .exit)) r) ⌝ }
+{
+    pen.write_word(room, t, section_row(rows::QUALIFIERS, LAST_QUALIFIER, v))
+}
+
+// In a list: a separator before each but the first.
+pub fn separate(pen: Pen, s: Settings, room: &mut [u8], first: bool) -> Pen
+    ensures { λ r. ⌜ Ran s (separator first) (now (room .entry)) pen (now (room .exit)) r ⌝ }
+{
+    if first {
+        return pen;
+    }
+    pen.write_list_separator(room, s)
+}
+
+// In a qualifier: a space before each but the first.
+pub fn space_between(pen: Pen, room: &mut [u8], first: bool) -> Pen
+    ensures { λ r. ⌜ ((s : Settings) → Ran s (space-between first) (now (room .entry)) pen (now (room .exit)) r) ⌝ }
+{
+    if first {
+        return pen;
+    }
+    pen.write_char(room, b' ')
+}
+
+// The name of a struct, if it has one.
+pub fn show_name(pen: Pen, room: &mut [u8], names: &[u8], named: bool, a: u32, b: u32) -> Pen
+    ensures { λ r. ⌜ ((s : Settings) → Ran s (show-name (cond named (some (part (now (names .entry)) a b)) none)) (now (room .entry)) pen (now (room .exit)) r) ⌝ }
+{
+    if named {
+        return pen.write_name(room, names, a, b);
+    }
+    pen
+}
+
+// Brackets, where they are asked for.
+pub fn open_if(pen: Pen, room: &mut [u8], on: bool) -> Pen
+    ensures { λ r. ⌜ ((s : Settings) → Ran s (cond on (a-symbol Symbol.left-paren) []) (now (room .entry)) pen (now (room .exit)) r) ⌝ }
+{
+    if on {
+        return pen.write_char(room, b'(');
+    }
+    pen
+}
+
+pub fn close_if(pen: Pen, room: &mut [u8], on: bool) -> Pen
+    ensures { λ r. ⌜ ((s : Settings) → Ran s (cond on (a-symbol Symbol.right-paren) []) (now (room .entry)) pen (now (room .exit)) r) ⌝ }
+{
+    if on {
+        return pen.write_char(room, b')');
+    }
+    pen
+}
+
+// ++ or -- behind an operand.
+pub fn show_post(pen: Pen, room: &mut [u8], down: bool) -> Pen
+    ensures { λ r. ⌜ ((s : Settings) → Ran s (a-symbol (cond down Symbol.dec-op Symbol.inc-op)) (now (room .entry)) pen (now (room .exit)) r) ⌝ }
+{
+    if down {
+        return pen.write_str(room, b"--");
+    }
+    pen.write_str(room, b"++")
+}

@@ -1,0 +1,5 @@
+pub mod At
+pub mod Lists
+pub mod Most
+pub mod Parts
+pub mod Printers
