@@ -1,0 +1,8 @@
+pub mod Anywhere
+pub mod Answer
+pub mod Heads
+pub mod Pairs
+pub mod Parts
+pub mod Signs
+pub mod Stacked
+pub mod Steps

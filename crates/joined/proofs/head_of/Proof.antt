@@ -1,0 +1,19 @@
+-- `joined::head_of` meets its contract: both fields by their promises. Assumes nothing.
+use mathlib.Core.Path.{refl}
+use borrow.Author.Needs.{needs}
+use Rattle.joined.specs.Stack.{headOf}
+use Rattle.joined.proofs.head_of.Statement.{statement}
+use Rattle.joined.proofs.head_of.Tie as tie
+
+sign-of-requires : tie.Need-sign-of-requires
+sign-of-requires c κs = search needs
+
+of-expr-requires : tie.Need-of-expr-requires
+of-expr-requires c κs = search needs
+
+returns : tie.Need-returns
+unfolding headOf
+returns c = rw (c .before .sign-of .ensures, c .of-expr .ensures) refl
+
+pub head-of-spec : {M : Type 1} → statement M
+head-of-spec = tie.close (tie.spec sign-of-requires of-expr-requires returns)

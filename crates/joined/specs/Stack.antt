@@ -1,0 +1,90 @@
+-- What the walk of the joined question does with the records, from the last to the first. That its answer is the definition's (text, specs/Joined) for
+-- accepted records is shown in proofs/Answer. Assumes nothing.
+use mathlib.Core.Bool.{Bool, false, _&&_, _||_, cond}
+use mathlib.Core.List.{List, [], _∷_}
+use Prim.Native.Nat.{ℕ, zero, suc, _+_}
+use Prim.Native.Char.{code}
+use lib.Dec.{eqb, ltb}
+use lib.ListN.{length, getD, drop}
+use Rattle.decimal.specs.Decimal.{negative}
+use Rattle.records.specs.declared.Record.{Record}
+use Rattle.records.specs.Record.{recordCount, recordAt}
+use Rattle.shapes.specs.Shape.{lastVariant}
+use Rattle.accept.specs.Check.{childrenOf, most-records}
+use Rattle.text.specs.Text.{postfix-precedence, binary-precedence, ternary-precedence, assignment-precedence, comma-precedence}
+use Rattle.text.specs.Reading.{binaryOp}
+use Rattle.precedence.specs.Strength.{strengthOf}
+use Rattle.joined.specs.declared.Head.{Head}
+
+-- its first operand is bare if it binds below this (01, "Rules of the text"); 0 where it has none, and for a callee, which is always bare
+unfoldable pub firstBelow : (kind variant : ℕ) → ℕ
+firstBelow k v =
+    cond (eqb k 8) (binary-precedence (binaryOp v) + 1)
+    (cond (eqb k 9) ternary-precedence
+    (cond (eqb k 10) assignment-precedence
+    (cond (eqb k 11) (postfix-precedence + 1)
+    (cond (eqb k 13) (postfix-precedence + 1)
+    (cond (eqb k 14) postfix-precedence
+    (cond (eqb k 15) postfix-precedence
+    (cond (eqb k 16) (comma-precedence + 1) 0)))))))
+
+-- a sign is its byte, and 0 is none
+
+unfoldable pub unarySign : (variant : ℕ) → ℕ
+unarySign v = cond (eqb v 0) (code "+") (cond (eqb v 1) (code "-") (cond (eqb v 2) (code "+") (cond (eqb v 3) (code "-") 0)))
+
+unfoldable pub intSign : ℕ → ℕ
+intSign a = cond (negative a) (code "-") 0
+
+-- an operand in parentheses begins with none
+unfoldable pub bareSign : Head → (below : ℕ) → ℕ
+bareSign h below = cond (ltb (h .strength) below) (h .sign) 0
+
+-- the first operand stands right behind the record
+unfoldable pub signOf : Record → (next : Head) → ℕ
+signOf r next =
+    cond (eqb (r .kind) 2) (intSign (r .a))
+    (cond (eqb (r .kind) 7) (unarySign (r .variant))
+    (cond (eqb (r .kind) 12) (next .sign) (bareSign next (firstBelow (r .kind) (r .variant)))))
+
+unfoldable pub headOf : Record → (next : Head) → Head
+headOf r next = record { sign = signOf r next; strength = strengthOf (r .kind) (r .variant) }
+
+-- a binary + or -, and its right operand's byte
+unfoldable pub joinsAt : Record → ℕ → Bool
+joinsAt r right = eqb (r .kind) 8 && (eqb (r .variant) 14 && eqb right (code "+") || eqb (r .variant) 15 && eqb right (code "-"))
+
+unfoldable pub childCount : Record → ℕ
+childCount r = cond (ltb (lastVariant (r .kind)) (r .variant)) 0 (length (childrenOf r))
+
+-- The state before a record: the head of the record behind it; for each tree behind it, up to the next of its parents, the sign that it begins with
+-- where it is the right operand of a + or -; was there one that joins?
+pub record State : Type 0 where
+  pub head : Head
+  pub stack : List ℕ
+  pub found : Bool
+
+abbrev pub no-head : Head
+no-head = record { sign = 0; strength = 0 }
+
+abbrev pub start : State
+start = record { head = no-head; stack = []; found = false }
+
+-- a right operand of + and - is bare below it
+abbrev pub additive : ℕ
+additive = 5
+
+abbrev pub step : Record → State → State
+step r s = record {
+  head = headOf r (s .head);
+  stack = bareSign (headOf r (s .head)) additive ∷ drop (childCount r) (s .stack);
+  found = joinsAt r (getD (s .stack) 1 0) || s .found;
+}
+
+-- n records from record i on
+unfoldable pub walk : List ℕ → ℕ → ℕ → State
+walk records zero i = start
+walk records (suc n) i = step (recordAt records i) (walk records n (i + 1))
+
+unfoldable pub anyJoined : List ℕ → Bool
+anyJoined records = cond (ltb most-records (recordCount records)) false (walk records (recordCount records) 0 .found)

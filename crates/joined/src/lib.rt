@@ -1,0 +1,198 @@
+// The joined question (01, "Calls"), asked of the records alone: one walk over them from the last to the first, without recursion.
+// The walk keeps a stack, its top first: a byte for each tree that stands behind the record at hand and within its parents. A record takes its
+// children's bytes off and puts its own byte on, so that at a binary operator the second byte is the right operand's.
+ghost use mathlib.Core.Path.{_≡_};
+ghost use mathlib.Core.List.{List};
+ghost use Prim.Native.Nat.{ℕ, _+_, _≤_};
+ghost use lib.ListN.{length, getD, drop};
+ghost use Rattle.shapes.specs.Shape.{classes};
+ghost use Rattle.shapes.specs.Table as ShapeTable;
+ghost use Rattle.joined.specs.Stack as Stack;
+use records::Record;
+use shapes::rows::Shapes;
+
+// How the text of an expression begins, and how strongly it binds.
+pub struct Head {
+    pub sign: u8,
+    pub strength: u8,
+}
+
+const PLUS: u8 = 43;
+
+const MINUS: u8 = 45;
+
+const MOST_RECORDS: usize = 4096;
+
+// The parts that a row of the table has room for.
+const PARTS: usize = 4;
+
+// Below these, what binds as strongly is bare too.
+const PAST_POSTFIX: u8 = precedence::POSTFIX + 1;
+
+const PAST_COMMA: u8 = precedence::COMMA + 1;
+
+// The first operand of a record is bare if it binds below this; 0 where a record has none. (A callee is always bare.)
+fn first_below(kind: u8, v: u8) -> u8
+    ensures { λ r. ⌜ r ≡ Stack.firstBelow kind v ⌝ }
+{
+    match kind {
+        8 => precedence::of_binary_op(v) + 1,
+        9 => precedence::TERNARY,
+        10 => precedence::ASSIGNMENT,
+        11 => PAST_POSTFIX,
+        13 => PAST_POSTFIX,
+        14 => precedence::POSTFIX,
+        15 => precedence::POSTFIX,
+        16 => PAST_COMMA,
+        _ => 0,
+    }
+}
+
+// The sign that a unary operator begins with, or 0.
+fn unary_sign(v: u8) -> u8
+    ensures { λ r. ⌜ r ≡ Stack.unarySign v ⌝ }
+{
+    match v {
+        0 => PLUS,
+        1 => MINUS,
+        2 => PLUS,
+        3 => MINUS,
+        _ => 0,
+    }
+}
+
+// The sign of a whole number, by its 32 bits.
+fn int_sign(a: u32) -> u8
+    ensures { λ r. ⌜ r ≡ Stack.intSign a ⌝ }
+{
+    if decimal::is_negative(a) {
+        return MINUS;
+    }
+    0
+}
+
+// The sign that an operand begins with where it is bare if it binds below `below`; in parentheses it begins with none.
+fn bare_sign(operand: Head, below: u8) -> u8
+    ensures { λ r. ⌜ r ≡ Stack.bareSign operand below ⌝ }
+{
+    if operand.strength < below {
+        return operand.sign;
+    }
+    0
+}
+
+// The sign that the text of the expression begins with whose record this is, before another.
+fn sign_of(r: Record, next: Head) -> u8
+    ensures { λ s. ⌜ s ≡ Stack.signOf r next ⌝ }
+{
+    let kind = r.kind;
+    match kind {
+        2 => int_sign(r.a),
+        7 => unary_sign(r.variant),
+        12 => next.sign,
+        _ => bare_sign(next, first_below(kind, r.variant)),
+    }
+}
+
+fn head_of(r: Record, next: Head) -> Head
+    ensures { λ h. ⌜ h ≡ Stack.headOf r next ⌝ }
+{
+    Head {
+        sign: sign_of(r, next),
+        strength: precedence::of_expr(r.kind, r.variant),
+    }
+}
+
+// Is it a binary + or - whose bare right operand begins with the same sign?
+fn joins(r: Record, right: u8) -> bool
+    ensures { λ b. ⌜ b ≡ Stack.joinsAt r right ⌝ }
+{
+    (r.kind == 8) & ((r.variant == 14) & (right == PLUS) | (r.variant == 15) & (right == MINUS))
+}
+
+// How many children the parts of a row stand for, in a record that counts n.
+fn children_in(t: &Shapes, row: usize, n: u16) -> usize
+    requires { ⌜ row + ShapeTable.rowSize ≤ ShapeTable.firstClassRow ⌝ }
+    ensures { λ r. ⌜ r ≡ length (classes n (ShapeTable.shapeAt (now (t .entry)) row .parts)) ⌝ }
+{
+    let mut total: usize = 0;
+    let mut j: usize = 0;
+    while j < PARTS {
+        let part = shapes::cell(t, row + 2 + j);
+        if part == 0 {
+            return total;
+        }
+        total += accept::times(part, n);
+        j += 1;
+    }
+    total
+}
+
+// How many children a record has, if its variant is one of its kind's.
+fn children(t: &Shapes, r: Record) -> usize
+    requires { ⌜ ShapeTable.Shaped (now t) ⌝ }
+    ensures { λ n. ⌜ n ≡ Stack.childCount r ⌝ }
+{
+    if shapes::last_variant(t, r.kind) < r.variant {
+        return 0;
+    }
+    children_in(t, shapes::row_of(t, r.kind, r.variant), r.count)
+}
+
+// The second byte of the stack, 0 where there is none.
+fn second(stack: &[u8], top: usize) -> u8
+    requires { ⌜ top ≤ length (now stack) ⌝ }
+    ensures { λ r. ⌜ r ≡ getD (drop top (now (stack .entry))) 1 0 ⌝ }
+{
+    if stack.len() - top < 2 {
+        return 0;
+    }
+    stack[top + 1]
+}
+
+// Where the top of a stack of `len` bytes is when k of them are taken off, or all.
+fn taken_off(len: usize, top: usize, k: usize) -> usize
+    requires { ⌜ top ≤ len ⌝ }
+    ensures { λ r. ⌜ (top ≤ r) × (r ≤ len) × ((s : List ℕ) → length s ≡ len → drop r s ≡ drop k (drop top s)) ⌝ }
+{
+    if len - top < k {
+        return len;
+    }
+    top + k
+}
+
+// The first n records, from the last to the first, with room for a byte of each.
+fn walk(t: &Shapes, records: &[u8], stack: &mut [u8], n: usize) -> bool
+    requires { ⌜ (ShapeTable.Shaped (now t)) × (n ≤ length (now stack)) ⌝ }
+    ensures { λ r. ⌜ r ≡ Stack.walk (now (records .entry)) n 0 .found ⌝ }
+{
+    let mut found = false;
+    let mut head = Head {
+        sign: 0,
+        strength: 0,
+    };
+    let mut top = stack.len();
+    let mut i = n;
+    while 0 < i {
+        i -= 1;
+        let r = records::record_at(records, i);
+        found = joins(r, second(stack, top)) | found;
+        head = head_of(r, head);
+        top = taken_off(stack.len(), top, children(t, r)) - 1;
+        stack[top] = bare_sign(head, precedence::ADDITIVE);
+    }
+    found
+}
+
+// Does some binary + or - have a bare right operand that begins with the same sign? It goes by the records alone, and is meant for accepted ones.
+pub fn any_joined(records: &[u8]) -> bool
+    ensures { λ r. ⌜ r ≡ Stack.anyJoined (now (records .entry)) ⌝ }
+{
+    let n = records::whole_records(records);
+    if MOST_RECORDS < n {
+        return false;
+    }
+    let t = shapes::table();
+    let mut stack = [0; MOST_RECORDS];
+    walk(&t, records, &mut stack, n)
+}
