@@ -1,0 +1,84 @@
+-- The outcome of a print by what was found on the way, how large its numbers are, and the part that is handed back: for every class and text. Assumes
+-- nothing.
+use mathlib.Core.Path.{_≡_, refl, sym, ap, subst, _∙_}
+use mathlib.Core.Bool.{Bool, true, false, cond}
+use mathlib.Core.List.{List}
+use Prim.Native.Nat.{ℕ, _<_, _≤_, _^_}
+use native.Mathlib.Omega.{arith}
+use lib.Dec.{leb}
+use lib.ListN.{length, take, drop}
+use lib.Seq.{take-at}
+use Rattle.settings.specs.declared.Settings.{Settings}
+use Rattle.settings.specs.declared.SettingsRead.{SettingsRead}
+use Rattle.settings.specs.declared.SettingsRead.the-variants as Settings
+use Rattle.accept.specs.declared.Refusal.{Refusal}
+use Rattle.accept.specs.declared.Refusal.the-variants as Why
+use Rattle.accept.specs.declared.Checked.{Checked}
+use Rattle.accept.specs.declared.Checked.the-variants as Check
+use Rattle.accept.specs.Refusal.{place}
+use Rattle.accept.specs.Check.{most-records}
+use Rattle.glsl.specs.declared.Printed.{Printed}
+use Rattle.glsl.specs.declared.Printed.the-variants.{Text, Refused}
+use Rattle.glsl.specs.Printed.{fitted, outcome, roomAfter, Prints, writtenLength, front, value}
+
+module _ (r : SettingsRead) (c : Checked) (t room : List ℕ) where
+  pub settings-refused : r ≡ Settings.Refused → outcome r c t room ≡ Refused Why.SettingsOutOfRange 0
+  unfolding outcome
+  settings-refused e = ap (λ (x : SettingsRead). outcome x c t room) e
+
+  pub check-refused : (s : Settings) (x : Refusal) (p : ℕ) → r ≡ Settings.Read s → c ≡ Check.Refused x p → outcome r c t room ≡ Refused x p
+  unfolding outcome
+  check-refused s x p e f = ap (λ (y : SettingsRead). outcome y c t room) e ∙ ap (λ (y : Checked). outcome (Settings.Read s) y t room) f
+
+  accepted : (s : Settings) (m : ℕ) → r ≡ Settings.Read s → c ≡ Check.Next m → outcome r c t room ≡ fitted t room
+  unfolding outcome
+  accepted s m e f = ap (λ (y : SettingsRead). outcome y c t room) e ∙ ap (λ (y : Checked). outcome (Settings.Read s) y t room) f
+
+  -- a text, put where settings and records were accepted
+  pub accepted-put : (s : Settings) (m : ℕ) {t′ room′ : List ℕ} {o : Printed} → r ≡ Settings.Read s → c ≡ Check.Next m → t′ ≡ t → Prints (fitted t′ room) t′ room room′ o
+      → Prints (outcome r c t room) t room room′ o
+  accepted-put s m {room′ = room′} {o = o} e f same a =
+      subst (λ (x : Printed). Prints x t room room′ o) (sym (accepted s m e f)) (subst (λ (x : List ℕ). Prints (fitted x room) x room room′ o) same a)
+
+-- no number of an outcome has more than 32 bits
+fitted-value : (t room : List ℕ) → value (fitted t room) ≡ length t
+unfolding fitted
+fitted-value t room = go (leb (length t) (length room))
+  where
+    go : (b : Bool) → value (cond b (Text (length t)) (Refused Why.RoomTooSmall (length t))) ≡ length t
+    go true = refl
+    go false = refl
+
+pub outcome-small : (r : SettingsRead) (c : Checked) (t room : List ℕ) → place c ≤ most-records
+    → ((s : Settings) (m : ℕ) → r ≡ Settings.Read s → c ≡ Check.Next m → length t < 2 ^ 32) → value (outcome r c t room) < 2 ^ 32
+unfolding outcome
+outcome-small Settings.Refused c t room near short = omega arith
+outcome-small (Settings.Read s) (Check.Refused x p) t room near short = omega arith
+outcome-small (Settings.Read s) (Check.Next m) t room near short = omega (arith, fitted-value t room, short s m refl refl)
+
+-- the length of an answer is its text's
+abbrev Long : Printed → List ℕ → Type 0
+Long (Text n) t = n ≡ length t
+Long (Refused x p) t = Unit {0}
+
+pub outcome-long : (r : SettingsRead) (c : Checked) (t room : List ℕ) → Long (outcome r c t room) t
+unfolding outcome fitted
+outcome-long Settings.Refused c t room = tt
+outcome-long (Settings.Read s) (Check.Refused x p) t room = tt
+outcome-long (Settings.Read s) (Check.Next m) t room = go (leb (length t) (length room))
+  where
+    go : (b : Bool) → Long (cond b (Text (length t)) (Refused Why.RoomTooSmall (length t))) t
+    go true = refl
+    go false = tt
+
+-- so the part that is handed back is the front of what the room then holds
+front-is : (o : Printed) (t room : List ℕ) → Long o t → (take (writtenLength o) (roomAfter o t room) ≡ front o t) × (writtenLength o ≡ length (front o t))
+front-is (Text n) t room e = (take-at t (drop n room) n (sym e), e)
+front-is (Refused x p) t room e = (refl, refl)
+
+module _ (o : Printed) (t room : List ℕ) {room′ : List ℕ} {r : Printed} {n : ℕ} (long : Long o t) (a : Prints o t room room′ r) (e : n ≡ writtenLength r) where
+  pub part-is : take n room′ ≡ front o t
+  part-is = ap (λ (k : ℕ). take k room′) (e ∙ ap writtenLength (a .answered)) ∙ ap (take (writtenLength o)) (a .left) ∙ front-is o t room long .0
+
+  pub part-long : n ≡ length (take n room′)
+  part-long = e ∙ ap writtenLength (a .answered) ∙ front-is o t room long .1 ∙ sym (ap length part-is)

@@ -1,0 +1,39 @@
+-- The one outcome of the joined question (01, "Calls"): whether the expression is joined, or the check's refusal; it takes no settings and no room, and
+-- never gives refusal 1 or 13. Assumes nothing.
+use mathlib.Core.Bool.{Bool, cond}
+use mathlib.Core.List.{List}
+use Prim.Native.Nat.{ℕ}
+use lib.IntN.{ℤ, pos}
+use Rattle.shapes.specs.Class.{Class}
+use Rattle.accept.specs.declared.Checked.{Checked}
+use Rattle.accept.specs.declared.Checked.the-variants as Check
+use Rattle.accept.specs.Refusal.{number}
+use Rattle.accept.specs.Check.{check}
+use Rattle.checks.specs.Answer.{refusalAnswer}
+use Rattle.text.specs.Joined.{joinedAnswer}
+use Rattle.glsl.specs.declared.Whether.{Whether}
+use Rattle.glsl.specs.declared.Whether.the-variants as Answer
+
+unfoldable pub judged : Checked → Bool → Whether
+judged (Check.Refused x p) b = Answer.Refused x p
+judged (Check.Next m) b = cond b Answer.Yes Answer.No
+
+abbrev pub joinedOutcome : (records names : List ℕ) → Whether
+joinedOutcome records names = judged (check records names Class.expr) (joinedAnswer records names)
+
+-- the paper's number and place; 0 is no refusal, which has no place
+abbrev pub joinedNumber : Whether → ℕ
+joinedNumber Answer.No = 0
+joinedNumber Answer.Yes = 0
+joinedNumber (Answer.Refused x p) = number x
+
+abbrev pub joinedPlace : Whether → ℕ
+joinedPlace Answer.No = 0
+joinedPlace Answer.Yes = 0
+joinedPlace (Answer.Refused x p) = p
+
+-- the 64 bits of the C function: 1 or 0
+unfoldable pub joinedBits : Whether → ℤ
+joinedBits Answer.No = pos 0
+joinedBits Answer.Yes = pos 1
+joinedBits (Answer.Refused x p) = refusalAnswer x p

@@ -1,0 +1,175 @@
+// The public calls on expressions (01, "Calls"), and the C functions over them. (The call that hands out a name is `records::name`.)
+ghost use mathlib.Core.Path.{_≡_};
+ghost use Prim.Native.Nat.{_<_, _^_};
+ghost use Rattle.settings.specs.State.{fresh};
+ghost use Rattle.text.specs.Pen.{text};
+ghost use Rattle.text.specs.Whole.{exprText};
+ghost use Rattle.pen.specs.Free.{Free};
+ghost use Rattle.glsl.specs.Printed.{start, fitted, roomAfter, Prints, writtenLength, front, refusalNumber, refusalPlace, value, printedBits, exprCommands, exprOutcome};
+ghost use Rattle.glsl.specs.Joined.{joinedOutcome, joinedPlace, joinedBits};
+use accept::Checked;
+use accept::Refusal;
+use pen::Pen;
+use settings::Settings;
+use settings::SettingsRead;
+
+// The answer of a print: the length of its text, or the refusal with its place. specs/Printed.antt gives the paper's number of each case.
+pub enum Printed {
+    Text(usize),
+    Refused(Refusal, usize),
+}
+
+// Where every print starts.
+fn start(s: Settings) -> Pen
+    ensures { λ r. ⌜ r ≡ start ⌝ }
+{
+    Pen {
+        at: 0,
+        next: 0,
+        state: s.fresh_state(),
+    }
+}
+
+// Measures the expression over an empty part of the room, and writes it where it fits. That its text meets no cap of the pen is what accepted records and
+// settings give.
+fn put_expr(s: Settings, records: &[u8], names: &[u8], room: &mut [u8]) -> Printed
+    requires { ⌜ Free s (exprCommands (now records) (now names)) start ⌝ }
+    ensures { λ r. let t = text s (exprCommands (now (records .entry)) (now (names .entry))) fresh in ⌜ Prints (fitted t (now (room .entry))) t (now (room .entry)) (now (room .exit)) r ⌝ }
+{
+    let t = words::table();
+    let pen = start(s);
+    let measured = show_expr::show_expr(s, &t, records, names, &mut room[..0], pen);
+    let n = measured.at as usize;
+    if room.len() < n {
+        return Printed::Refused(Refusal::RoomTooSmall, n);
+    }
+    show_expr::show_expr(s, &t, records, names, room, pen);
+    Printed::Text(n)
+}
+
+// Prints an expression: its text is at the front of the room, or nothing is altered.
+pub fn print_expr_into(settings: &[u8], records: &[u8], names: &[u8], room: &mut [u8]) -> Printed
+    ensures { λ r. ⌜ Prints (exprOutcome (now (settings .entry)) (now (records .entry)) (now (names .entry)) (now (room .entry))) (exprText (now (settings .entry)) (now (records .entry)) (now (names .entry))) (now (room .entry)) (now (room .exit)) r ⌝ }
+{
+    match Settings::read(settings) {
+        SettingsRead::Refused => Printed::Refused(Refusal::SettingsOutOfRange, 0),
+        SettingsRead::Read(s) => match accept::check_expr(records, names) {
+            Checked::Refused(x, p) => Printed::Refused(x, p),
+            Checked::Next(_) => put_expr(s, records, names, room),
+        },
+    }
+}
+
+// The paper's number of an answer, 0 for a text.
+fn number_of(o: Printed) -> u64
+    ensures { λ r. ⌜ r ≡ refusalNumber o ⌝ }
+{
+    match o {
+        Printed::Text(_) => 0,
+        Printed::Refused(x, _) => checks::number_of(x),
+    }
+}
+
+// The place of a refusal, 0 for a text.
+fn place_of(o: Printed) -> u64
+    ensures { λ r. ⌜ r ≡ refusalPlace o ⌝ }
+{
+    match o {
+        Printed::Text(_) => 0,
+        Printed::Refused(_, p) => p as u64,
+    }
+}
+
+// How long the written front of the room is.
+fn written(o: Printed) -> usize
+    ensures { λ r. ⌜ r ≡ writtenLength o ⌝ }
+{
+    match o {
+        Printed::Text(length) => length,
+        Printed::Refused(_, _) => 0,
+    }
+}
+
+// Prints an expression and hands back the written front of the room, empty on refusal; the refusal's number, 0 if there is none, and its place go to two
+// lent numbers. (Of a room that is handed back in part a contract can say no more than the part: that a refusal alters nothing, and what stands behind the text, `print_expr_into` promises.)
+pub fn print_expr<'a, 'b>(
+    settings: &'b [u8],
+    records: &'b [u8],
+    names: &'b [u8],
+    room: &'a mut [u8],
+    no: &'b mut u64,
+    place: &'b mut u64,
+) -> &'a mut [u8]
+    ensures { λ r. let o = exprOutcome (now (settings .entry)) (now (records .entry)) (now (names .entry)) (now (room .entry)) in ⌜ (now r ≡ front o (exprText (now (settings .entry)) (now (records .entry)) (now (names .entry)))) × (now (no .exit) ≡ refusalNumber o) × (now (place .exit) ≡ refusalPlace o) ⌝ }
+{
+    let o = print_expr_into(settings, records, names, &mut *room);
+    *no = number_of(o);
+    *place = place_of(o);
+    let n = written(o);
+    &mut room[..n]
+}
+
+// The 64 bits of an answer.
+fn printed_bits(o: Printed) -> i64
+    requires { ⌜ value o < 2 ^ 32 ⌝ }
+    ensures { λ r. ⌜ r ≡ printedBits o ⌝ }
+{
+    match o {
+        Printed::Text(length) => length as i64,
+        Printed::Refused(x, p) => checks::refusal_answer(x, p),
+    }
+}
+
+#[no_mangle]
+pub extern "C" fn glsl_print_expr(
+    settings: &[u8],
+    records: &[u8],
+    names: &[u8],
+    room: &mut [u8],
+) -> i64
+    ensures { λ r. let o = exprOutcome (now (settings .entry)) (now (records .entry)) (now (names .entry)) (now (room .entry)) in ⌜ (r ≡ printedBits o) × (now (room .exit) ≡ roomAfter o (exprText (now (settings .entry)) (now (records .entry)) (now (names .entry))) (now (room .entry))) ⌝ }
+{
+    printed_bits(print_expr_into(settings, records, names, room))
+}
+
+// The answer to the joined question. specs/Joined.antt gives the paper's number of each case.
+pub enum Whether {
+    No,
+    Yes,
+    Refused(Refusal, usize),
+}
+
+// Whether an expression is joined.
+pub fn joined(records: &[u8], names: &[u8]) -> Whether
+    ensures { λ r. ⌜ r ≡ joinedOutcome (now (records .entry)) (now (names .entry)) ⌝ }
+{
+    match accept::check_expr(records, names) {
+        Checked::Refused(x, p) => Whether::Refused(x, p),
+        Checked::Next(_) => {
+            if joined::any_joined(records) {
+                Whether::Yes
+            } else {
+                Whether::No
+            }
+        }
+    }
+}
+
+// The 64 bits of an answer.
+fn joined_bits(o: Whether) -> i64
+    requires { ⌜ joinedPlace o < 2 ^ 32 ⌝ }
+    ensures { λ r. ⌜ r ≡ joinedBits o ⌝ }
+{
+    match o {
+        Whether::No => 0,
+        Whether::Yes => 1,
+        Whether::Refused(x, p) => checks::refusal_answer(x, p),
+    }
+}
+
+#[no_mangle]
+pub extern "C" fn glsl_joined(records: &[u8], names: &[u8]) -> i64
+    ensures { λ r. ⌜ r ≡ joinedBits (joinedOutcome (now (records .entry)) (now (names .entry))) ⌝ }
+{
+    joined_bits(joined(records, names))
+}
