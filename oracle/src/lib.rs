@@ -14,6 +14,7 @@ pub mod random;
 pub mod read;
 pub mod record;
 pub mod refusal;
+pub mod sample;
 pub mod settings;
 pub mod tables;
 pub mod tree;

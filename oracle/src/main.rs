@@ -1,6 +1,6 @@
 //! The program `oracle`: answers, checks and makes lines of questions (see `oracle::line` for their format).
 
-use oracle::{answer, grow, line};
+use oracle::{answer, grow, line, sample};
 use std::fmt::Display;
 use std::fs::File;
 use std::io::{self, BufRead, BufReader, BufWriter, Write};
@@ -10,6 +10,7 @@ const USAGE: &str = "\
 usage: oracle answer               reads lines `Unit|Expr SETTINGS RECORDS NAMES`, writes them with TEXT and JOINED
        oracle check FILE           compares the lines of FILE, which have all six fields, with the oracle's answers
        oracle vectors SEED COUNT   writes COUNT random questions with their answers
+       oracle sample SEED          writes the sample that crates/replay replays (see `oracle::sample` for its format)
 Bytes are in hex, - for none. JOINED is 0 or 1, and 2 for a unit. A field !N@P is refusal N at place P; a field ? says
 that the Rust module must not be asked, since a float text is not what Rust's Display gives.";
 
@@ -23,6 +24,7 @@ fn main() -> ExitCode {
         ["answer"] => answer_lines(io::stdin().lock()),
         ["check", file] => check_file(file),
         ["vectors", seed, count] => vectors(seed, count),
+        ["sample", seed] => write_sample(seed),
         _ => Err(USAGE.to_owned()),
     };
     match verdict {
@@ -74,7 +76,6 @@ fn difference(claim: &line::Claim<'_>) -> Option<String> {
 
 /// `vectors`: random questions with their answers.
 fn vectors(seed: &str, count: &str) -> Verdict {
-    let number = |word: &str| word.parse::<u64>().map_err(|error| format!("{word}: {error}"));
     let (seed, count) = (number(seed)?, number(count)?);
     let mut output = BufWriter::new(io::stdout().lock());
     for case in 0..count {
@@ -83,6 +84,17 @@ fn vectors(seed: &str, count: &str) -> Verdict {
     }
     output.flush().map_err(message)?;
     Ok(true)
+}
+
+/// `sample`: the file of a seed.
+fn write_sample(seed: &str) -> Verdict {
+    let file = sample::file(number(seed)?);
+    io::stdout().lock().write_all(&file).map_err(message)?;
+    Ok(true)
+}
+
+fn number(word: &str) -> Result<u64, String> {
+    word.parse().map_err(|error| format!("{word}: {error}"))
 }
 
 /// An error's text.

@@ -1,9 +1,9 @@
 //! Random trees: all are good, and some thousand of them show everything that document 01's tables have.
 
 use oracle::answer::{answer, Outcome, Question, Root};
-use oracle::cases::{cover::records, damage};
+use oracle::cases::cover::{pairs, records};
+use oracle::cases::damage;
 use oracle::random::Random;
-use oracle::record::shape;
 use oracle::{grow, settings};
 use std::collections::BTreeSet;
 
@@ -27,8 +27,7 @@ fn every_tree_is_answered() {
 fn every_kind_and_variant_comes_up() {
     let seen: BTreeSet<(u8, u8)> =
         questions().flat_map(|q| records(&q).map(|r| (r.kind, r.variant)).collect::<Vec<_>>()).collect();
-    let all = (0..=255).flat_map(|kind| (0..=255).map(move |variant| (kind, variant)));
-    let missing: Vec<_> = all.filter(|&(k, v)| shape(k, v).is_some() && !seen.contains(&(k, v))).collect();
+    let missing: Vec<_> = pairs(Root::Unit).filter(|pair| !seen.contains(pair)).collect();
     assert_eq!(missing, []);
 }
 

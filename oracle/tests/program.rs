@@ -1,4 +1,4 @@
-//! The program itself: its three subcommands and its exit statuses.
+//! The program itself: its subcommands and its exit statuses.
 
 use std::fs;
 use std::io::Write;
@@ -76,6 +76,14 @@ fn differences_are_shown_and_counted() {
         output,
         "line 2 differs\n  file:   79 0\n  oracle: 78 0\nline 3 differs\n  file:   78 1\n  oracle: 78 0\n1 of 3 agree\n"
     );
+}
+
+#[test]
+fn samples_repeat_by_seed() {
+    let [first, again, other] = ["1", "1", "2"].map(|seed| run(&["sample", seed], "").stdout);
+    assert!(first == again && first != other);
+    // The first record is no case: it has their number.
+    assert_eq!(first[..4], [0; 4]);
 }
 
 #[test]

@@ -1,17 +1,35 @@
 //! One question to both: what the oracle says, and whether the library says the same.
 
 use crate::library::{Check, Print};
-use oracle::answer::{answer, Answer, Outcome, Question};
+use oracle::answer::{answer, Outcome, Question};
 use oracle::read;
 use oracle::record::SIZE;
 use oracle::refusal::Refusal;
 
+/// Refusals' numbers, and 0 for none.
+pub const NUMBERS: usize = 14;
+
 /// What the two said to a question.
+#[derive(Default)]
 pub struct Said {
-    /// The number of the oracle's refusal, 0 for none.
-    pub number: u8,
-    /// Where they differ: the oracle's answer and the library's.
+    /// How many calls the oracle answers with each number.
+    pub calls: [u64; NUMBERS],
+    /// Whether the tree is good, and its text or record count was compared.
+    pub is_good: bool,
+    /// Whether it is joined, where that was compared.
+    pub joined: Option<bool>,
+    /// Where they differ first: the oracle's answer and the library's.
     pub difference: Option<[String; 2]>,
+}
+
+impl Said {
+    /// Counts a call that the oracle answers so.
+    fn call(&mut self, oracle: Code, difference: Option<[String; 2]>) {
+        self.calls[oracle.number()] += 1;
+        if self.difference.is_none() {
+            self.difference = difference;
+        }
+    }
 }
 
 /// An answer of 64 bits.
@@ -30,18 +48,27 @@ impl Code {
         Self(-((i64::from(number) << 32) + place as i64))
     }
 
-    fn of(outcome: Result<usize, Refusal>) -> Self {
-        outcome.map_or_else(|refusal| Self::refused(refusal.number(), refusal.place), Self::given)
+    fn refusal(refusal: Refusal) -> Self {
+        Self::refused(refusal.number(), refusal.place)
+    }
+
+    /// The refusal's number, 0 for none.
+    fn number(self) -> usize {
+        if self.0 < 0 {
+            // The numbers are few.
+            (self.0.unsigned_abs() >> 32) as usize
+        } else {
+            0
+        }
     }
 }
 
 impl std::fmt::Display for Code {
     fn fmt(&self, f: &mut std::fmt::Formatter<'_>) -> std::fmt::Result {
-        let number = self.0.unsigned_abs();
-        if self.0 >= 0 {
-            write!(f, "{number}")
-        } else {
-            write!(f, "refused {} at {}", number >> 32, number & u64::from(u32::MAX))
+        let bits = self.0.unsigned_abs();
+        match self.number() {
+            0 => write!(f, "{}", self.0),
+            number => write!(f, "refused {number} at {}", bits & u64::from(u32::MAX)),
         }
     }
 }
@@ -55,9 +82,10 @@ fn difference(oracle: Code, library: i64, what: &str) -> Option<[String; 2]> {
 /// Asks for the record check.
 pub fn check(library: Check, question: &Question) -> Said {
     let refusal = read::refusal(question);
-    let oracle = Code::of(refusal.map_or(Ok(question.records.len() / SIZE), Err));
-    let difference = difference(oracle, library(question), "records");
-    Said { number: refusal.map_or(0, |refusal| refusal.number()), difference }
+    let oracle = refusal.map_or_else(|| Code::given(question.records.len() / SIZE), Code::refusal);
+    let mut said = Said { is_good: refusal.is_none(), ..Said::default() };
+    said.call(oracle, difference(oracle, library(question), "records"));
+    said
 }
 
 /// What a room holds before a call.
@@ -65,49 +93,51 @@ const BLANK: u8 = 0xa5;
 
 /// Asks for the text, in a room that fits, a larger one and one that is a byte too small, and for the joined question.
 pub fn print(library: Print, joined: Check, question: &Question) -> Said {
-    let Answer { text, joined: is_joined } = answer(question);
-    let (number, difference) = match text {
-        Outcome::Given(text) => (0, given(library, question, text.as_bytes())),
-        Outcome::Refused(refusal) => {
-            let code = Code::refused(refusal.number(), refusal.place);
-            (refusal.number(), in_room(library, question, 64, code, &[]))
+    let answer = answer(question);
+    let mut said = Said::default();
+    match &answer.text {
+        Outcome::Given(text) => {
+            let (text, length) = (text.as_bytes(), text.len());
+            said.is_good = true;
+            for room in [length, length + 7] {
+                said.print(library, question, room, Code::given(length), text);
+            }
+            if let Some(small) = length.checked_sub(1) {
+                said.print(library, question, small, Code::refused(13, length), &[]);
+            }
         }
-        Outcome::NotAsked => return Said { number: 0, difference: None },
-    };
-    let difference = difference.or_else(|| joined_differs(joined, question, is_joined?));
-    Said { number, difference }
+        Outcome::Refused(refusal) => said.print(library, question, 64, Code::refusal(*refusal), &[]),
+        Outcome::NotAsked => (),
+    }
+    match answer.joined {
+        Some(Outcome::Given(is_joined)) => {
+            said.joined = Some(is_joined);
+            said.join(joined, question, Code::given(is_joined.into()));
+        }
+        Some(Outcome::Refused(refusal)) => said.join(joined, question, Code::refusal(refusal)),
+        Some(Outcome::NotAsked) | None => (),
+    }
+    said
 }
 
-/// The difference where the text is given.
-fn given(library: Print, question: &Question, text: &[u8]) -> Option<[String; 2]> {
-    let length = text.len();
-    let too_small = || {
-        let small = length.checked_sub(1)?;
-        in_room(library, question, small, Code::refused(13, length), &[])
-    };
-    let fits = |room| in_room(library, question, room, Code::given(length), text);
-    fits(length).or_else(|| fits(length + 7)).or_else(too_small)
-}
+impl Said {
+    /// A print into a room of this length: the answer and every byte of the room are compared. `text` is what stands at
+    /// its front.
+    fn print(&mut self, library: Print, question: &Question, room: usize, oracle: Code, text: &[u8]) {
+        let mut bytes = vec![BLANK; room];
+        let answer = library(question, &mut bytes);
+        let difference = difference(oracle, answer, &format!("room {room}")).or_else(|| {
+            let expected = [text, &[BLANK].repeat(room - text.len())].concat();
+            let shown = |bytes: &[u8]| format!("room {room}: {:?}", String::from_utf8_lossy(bytes));
+            (bytes != expected).then(|| [shown(&expected), shown(&bytes)])
+        });
+        self.call(oracle, difference);
+    }
 
-/// The difference in a room of this length: the answer, or a byte of the room. `text` is what stands at its front.
-fn in_room(library: Print, question: &Question, room: usize, code: Code, text: &[u8]) -> Option<[String; 2]> {
-    let mut bytes = vec![BLANK; room];
-    let said = library(question, &mut bytes);
-    difference(code, said, &format!("room {room}")).or_else(|| {
-        let expected: Vec<u8> = text.iter().copied().chain([BLANK].repeat(room - text.len())).collect();
-        let shown = |bytes: &[u8]| format!("room {room}: {:?}", String::from_utf8_lossy(bytes));
-        (bytes != expected).then(|| [shown(&expected), shown(&bytes)])
-    })
-}
-
-/// The difference in the joined question.
-fn joined_differs(library: Check, question: &Question, outcome: Outcome<bool>) -> Option<[String; 2]> {
-    let code = match outcome {
-        Outcome::Given(is_joined) => Code::given(is_joined.into()),
-        Outcome::Refused(refusal) => Code::of(Err(refusal)),
-        Outcome::NotAsked => return None,
-    };
-    difference(code, library(question), "joined")
+    /// The joined question.
+    fn join(&mut self, library: Check, question: &Question, oracle: Code) {
+        self.call(oracle, difference(oracle, library(question), "joined"));
+    }
 }
 
 #[cfg(test)]
@@ -148,7 +178,9 @@ mod tests {
 
     #[test]
     fn a_good_printer_differs_in_nothing() {
-        assert!(print(print_well, |_| 1, &question()).difference.is_none());
+        let said = print(print_well, |_| 1, &question());
+        assert!(said.difference.is_none());
+        assert_eq!((said.is_good, said.joined, said.calls[0], said.calls[13]), (true, Some(true), 3, 1));
         assert!(check(|_| 4, &question()).difference.is_none());
     }
 

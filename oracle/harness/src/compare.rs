@@ -1,11 +1,15 @@
 //! Asks the library and the oracle the same questions, and counts.
 
-use crate::ask::Said;
-use oracle::answer::Question;
+use crate::ask::{Said, NUMBERS};
+use oracle::answer::{Question, Root};
 use oracle::cases::{cover, damage, large, limits, short};
 use oracle::grow;
 use oracle::line;
 use oracle::random::Random;
+use std::collections::BTreeMap;
+
+/// Grown trees from which the smallest ones with each kind and variant are taken.
+const GROWN_TO_CHOOSE: u64 = 60_000;
 
 /// Questions of one sort.
 struct Family<'a> {
@@ -13,11 +17,14 @@ struct Family<'a> {
     questions: Box<dyn Iterator<Item = Question> + 'a>,
 }
 
-/// Counts of a family's answers.
+/// Counts of answers.
 #[derive(Default)]
 struct Tally {
-    /// By the number of the oracle's refusal, 0 for none.
-    numbers: [u64; 14],
+    questions: u64,
+    /// Calls by the number of the oracle's refusal, 0 for none.
+    calls: [u64; NUMBERS],
+    /// Joined questions that the oracle answers by no, and by yes.
+    joined: [u64; 2],
     differing: u64,
     /// The shortest question on which the answers differ, with both.
     shortest: Option<(Question, [String; 2])>,
@@ -25,7 +32,11 @@ struct Tally {
 
 impl Tally {
     fn count(&mut self, question: Question, said: Said) {
-        self.numbers[usize::from(said.number)] += 1;
+        self.questions += 1;
+        self.add_calls(&said.calls);
+        if let Some(is_joined) = said.joined {
+            self.joined[usize::from(is_joined)] += 1;
+        }
         let Some(difference) = said.difference else {
             return;
         };
@@ -35,51 +46,108 @@ impl Tally {
             self.shortest = Some((question, difference));
         }
     }
-}
 
-/// Asks everything; prints a line for each family, the sum, and the shortest question of each family that differs.
-/// Whether nothing differs.
-pub fn run(seed: u64, cases: u64, ask: impl Fn(&Question) -> Said) -> bool {
-    let trees = cover::smallest(seed, 20_000);
-    let words = limits::near_words();
-    let every_byte: Vec<u8> = (0..=255).collect();
-    let mut all = Tally::default();
-    println!("{}", heading());
-    for family in families(seed, cases, &trees, &words, &every_byte) {
-        let mut tally = Tally::default();
-        for question in family.questions {
-            let said = ask(&question);
-            tally.count(question, said);
+    /// Counts another tally's questions too, but for which is the shortest.
+    fn add(&mut self, other: &Self) {
+        self.questions += other.questions;
+        self.differing += other.differing;
+        self.add_calls(&other.calls);
+        for (sum, count) in self.joined.iter_mut().zip(other.joined) {
+            *sum += count;
         }
-        println!("{}", line_of(family.name, &tally));
-        if let Some((question, [oracle, library])) = &tally.shortest {
+    }
+
+    fn add_calls(&mut self, calls: &[u64; NUMBERS]) {
+        for (sum, count) in self.calls.iter_mut().zip(calls) {
+            *sum += count;
+        }
+    }
+
+    /// A line of the table, and the shortest question that differs.
+    fn print(&self, name: &str) {
+        let calls: u64 = self.calls.iter().sum();
+        let [no, yes] = self.joined;
+        let columns = [self.questions, calls, self.differing, no, yes].into_iter().chain(self.calls);
+        println!("{name:<18}{}", columns.map(|count| format!("{count:>9}")).collect::<String>());
+        if let Some((question, [oracle, library])) = &self.shortest {
             // As `oracle answer` reads it.
             let Question { root, settings, records, names } = question;
             let [settings, records, names] = [settings, records, names].map(|bytes| line::hex(bytes));
             println!("    {root:?} {settings} {records} {names}\n    oracle:  {oracle}\n    library: {library}");
         }
-        for (sum, count) in all.numbers.iter_mut().zip(tally.numbers) {
-            *sum += count;
-        }
-        all.differing += tally.differing;
     }
-    println!("{}", line_of("all", &all));
-    all.differing == 0
 }
 
-fn heading() -> String {
-    let numbers: String = (1..=12).map(|number| format!("{number:>9}")).collect();
-    format!("{:<16}{:>10}{:>9}{:>9}{numbers}", "questions", "asked", "differ", "good")
+/// The line above the tallies'.
+fn heading(root: Root) -> String {
+    let columns = ["asked", "calls", "differ", "apart", "joined", "good"].into_iter().map(str::to_owned);
+    let columns = columns.chain((1..NUMBERS).map(|number| number.to_string()));
+    format!("{:<18}{}", format!("{root:?} questions"), columns.map(|word| format!("{word:>9}")).collect::<String>())
 }
 
-fn line_of(name: &str, tally: &Tally) -> String {
-    let asked: u64 = tally.numbers.iter().sum();
-    let numbers: String = tally.numbers[1..=12].iter().map(|count| format!("{count:>9}")).collect();
-    format!("{name:<16}{asked:>10}{:>9}{:>9}{numbers}", tally.differing, tally.numbers[0])
+/// How often good trees held each kind and variant.
+struct Met(BTreeMap<(u8, u8), u64>);
+
+impl Met {
+    fn none(root: Root) -> Self {
+        Self(cover::pairs(root).map(|pair| (pair, 0)).collect())
+    }
+
+    fn count(&mut self, question: &Question) {
+        for record in cover::records(question) {
+            *self.0.entry((record.kind, record.variant)).or_default() += 1;
+        }
+    }
+
+    /// Prints how many pairs were met, which were not, and the counts by kind. Whether all were met.
+    fn print(&self) -> bool {
+        let missing: Vec<_> = self.0.iter().filter(|(_, &count)| count == 0).map(|(pair, _)| pair).collect();
+        println!("pairs of kind and variant met in good trees: {} of {}", self.0.len() - missing.len(), self.0.len());
+        if !missing.is_empty() {
+            println!("    not met: {missing:?}");
+        }
+        let mut kinds: BTreeMap<u8, Vec<u64>> = BTreeMap::new();
+        for (&(kind, _), &count) in &self.0 {
+            kinds.entry(kind).or_default().push(count);
+        }
+        let shown = kinds.iter().map(|(kind, counts)| {
+            let (variants, least) = (counts.len(), counts.iter().min().copied().unwrap_or(0));
+            format!("{kind}: {variants} from {least}")
+        });
+        println!("    kind: variants from the least count: {}", shown.collect::<Vec<_>>().join("; "));
+        missing.is_empty()
+    }
 }
 
-/// All questions. `trees` show every kind and variant.
+/// Asks everything with this root; prints a line for each family, the sum, and the shortest question of each family that
+/// differs. Whether nothing differs and every kind and variant was met in good trees.
+pub fn run(root: Root, seed: u64, cases: u64, ask: impl Fn(&Question) -> Said) -> bool {
+    let trees = cover::smallest(root, seed, GROWN_TO_CHOOSE);
+    let words = limits::near_words();
+    let every_byte: Vec<u8> = (0..=255).collect();
+    let (mut all, mut met) = (Tally::default(), Met::none(root));
+    println!("{}", heading(root));
+    for family in families(root, seed, cases, &trees, &words, &every_byte) {
+        let mut tally = Tally::default();
+        for question in family.questions.filter(|question| question.root == root) {
+            let said = ask(&question);
+            if said.is_good {
+                met.count(&question);
+            }
+            tally.count(question, said);
+        }
+        if tally.questions > 0 {
+            tally.print(family.name);
+        }
+        all.add(&tally);
+    }
+    all.print("all");
+    met.print() && all.differing == 0
+}
+
+/// All questions, with other roots too. `trees` show every kind and variant.
 fn families<'a>(
+    root: Root,
     seed: u64,
     cases: u64,
     trees: &'a [Question],
@@ -87,9 +155,12 @@ fn families<'a>(
     every_byte: &'a [u8],
 ) -> Vec<Family<'a>> {
     let family = |name, questions| Family { name, questions };
-    let grown = move || (0..cases).map(move |case| grow::question(seed, case));
+    let grown = move || (0..cases).map(move |case| grow::rooted(root, seed, case));
+    let others = [Root::Unit, Root::Expr].into_iter().filter(move |&other| other != root);
+    let others = others.flat_map(move |other| (0..cases).map(move |case| grow::rooted(other, seed, case)));
     vec![
-        family("whole", Box::new(grown().flat_map(|question| [damage::other_root(&question), question]))),
+        family("whole", Box::new(grown())),
+        family("of the other call", Box::new(others.map(|question| damage::other_root(&question)))),
         family("record bytes", Box::new(trees.iter().flat_map(|tree| damage::record_bytes(tree, every_byte)))),
         family("name bytes", Box::new(trees.iter().flat_map(|tree| damage::name_bytes(tree, every_byte)))),
         family("cuts", Box::new(trees.iter().flat_map(damage::cuts))),
@@ -106,7 +177,7 @@ fn families<'a>(
         family("long texts", Box::new(limits::long_texts())),
         family("short texts", Box::new(limits::short_texts())),
         family("offsets", Box::new(limits::offsets())),
-        family("large", Box::new((0..cases / 1_000).flat_map(move |case| large_ones(seed, case)))),
+        family("large", Box::new((0..cases.div_ceil(1_000)).flat_map(move |case| large_ones(root, seed, case)))),
     ]
 }
 
@@ -116,11 +187,12 @@ fn several(seed: u64, case: u64, tree: &Question) -> Vec<Question> {
     [1, 1, 2, 2, 3, 3, 4, 4].map(|times| damage::several(tree, times, &mut random)).to_vec()
 }
 
-/// Two large units, whole and with damages.
-fn large_ones(seed: u64, case: u64) -> Vec<Question> {
+/// Large trees, whole and with damages.
+fn large_ones(root: Root, seed: u64, case: u64) -> Vec<Question> {
     let mut random = Random::new(!seed, case);
-    let units = [large::grown(seed ^ case, 4_000), large::shader(seed ^ case, 4_096)];
-    let damaged = units.iter().flat_map(|unit| [1, 1, 1, 1, 2, 2, 3].map(|times| (unit, times)));
-    let damaged: Vec<Question> = damaged.map(|(unit, times)| damage::several(unit, times, &mut random)).collect();
-    units.into_iter().chain(damaged).collect()
+    let seed = seed ^ case;
+    let trees = [large::grown(root, seed, 4_000), large::shader(root, seed, 4_096), large::nested(seed, 4_096)];
+    let damaged = trees.iter().flat_map(|tree| [1, 1, 1, 1, 2, 2, 3].map(|times| (tree, times)));
+    let damaged: Vec<Question> = damaged.map(|(tree, times)| damage::several(tree, times, &mut random)).collect();
+    trees.into_iter().chain(damaged).collect()
 }

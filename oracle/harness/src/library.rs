@@ -2,7 +2,7 @@
 //!
 //! A function is absent where the harness was built without its library.
 
-use oracle::answer::Question;
+use oracle::answer::{Question, Root};
 
 /// The record check: a question's records and names.
 pub type Check = fn(&Question) -> i64;
@@ -14,16 +14,20 @@ pub type Print = fn(&Question, &mut [u8]) -> i64;
 /// by itself.)
 pub const CHECK: Option<Check> = check::LINKED;
 
-/// The two prints.
-pub const PRINT: Option<Print> = glsl::PRINT;
+/// The print of a root.
+pub fn print(root: Root) -> Option<Print> {
+    match root {
+        Root::Unit => glsl::UNIT,
+        Root::Expr => glsl::EXPR,
+    }
+}
 
 /// The joined question.
 pub const JOINED: Option<Check> = glsl::JOINED;
 
 #[cfg(check_lib)]
 mod check {
-    use super::{Check, Question};
-    use oracle::answer::Root;
+    use super::{Check, Question, Root};
 
     extern "C" {
         fn accept_unit(records: *const u8, records_length: usize, names: *const u8, names_length: usize) -> i64;
@@ -49,9 +53,12 @@ mod check {
 #[cfg(glsl_lib)]
 mod glsl {
     use super::{Check, Print, Question};
-    use oracle::answer::Root;
+
+    /// Settings, records, names and the room.
+    type Entry = unsafe extern "C" fn(*const u8, usize, *const u8, usize, *const u8, usize, *mut u8, usize) -> i64;
 
     extern "C" {
+        #[cfg(glsl_units)]
         fn glsl_print_unit(
             settings: *const u8,
             settings_length: usize,
@@ -75,16 +82,19 @@ mod glsl {
         fn glsl_joined(records: *const u8, records_length: usize, names: *const u8, names_length: usize) -> i64;
     }
 
-    pub const PRINT: Option<Print> = Some(|question, room| {
-        let Question { root, settings, records, names } = question;
-        let call = match root {
-            Root::Unit => glsl_print_unit,
-            Root::Expr => glsl_print_expr,
-        };
+    #[cfg(glsl_units)]
+    pub const UNIT: Option<Print> = Some(|question, room| call(glsl_print_unit, question, room));
+    #[cfg(not(glsl_units))]
+    pub const UNIT: Option<Print> = None;
+
+    pub const EXPR: Option<Print> = Some(|question, room| call(glsl_print_expr, question, room));
+
+    fn call(entry: Entry, question: &Question, room: &mut [u8]) -> i64 {
+        let Question { settings, records, names, .. } = question;
         // SAFETY: pointers and lengths are those of slices that outlive the call; it writes to the room alone, which is
         // lent for that.
         unsafe {
-            call(
+            entry(
                 settings.as_ptr(),
                 settings.len(),
                 records.as_ptr(),
@@ -95,7 +105,7 @@ mod glsl {
                 room.len(),
             )
         }
-    });
+    }
 
     pub const JOINED: Option<Check> = Some(|question| {
         let Question { records, names, .. } = question;
@@ -106,6 +116,7 @@ mod glsl {
 
 #[cfg(not(glsl_lib))]
 mod glsl {
-    pub const PRINT: Option<super::Print> = None;
+    pub const UNIT: Option<super::Print> = None;
+    pub const EXPR: Option<super::Print> = None;
     pub const JOINED: Option<super::Check> = None;
 }

@@ -4,14 +4,18 @@ mod ask;
 mod compare;
 mod library;
 mod speed;
+mod stack;
 
+use oracle::answer::Root;
 use std::process::ExitCode;
 
 const USAGE: &str = "\
 usage: harness check SEED CASES   asks CHECK_LIB and the oracle for the record check
        harness print SEED CASES   asks GLSL_LIB and the oracle for texts, and whether they are joined
-       harness speed SEED         times the calls there are, beside the Rust module's print
+       harness speed SEED         times the calls there are, beside the Rust module's print, and measures their stacks
 CASES grown trees are asked for; the other questions are the same in every run but for SEED's trees.";
+
+const ROOTS: [Root; 2] = [Root::Expr, Root::Unit];
 
 /// Whether all agrees; an error is a message for the user.
 type Verdict = Result<bool, String>;
@@ -34,11 +38,21 @@ fn run(arguments: &[&str]) -> Verdict {
     match *arguments {
         ["check", seed, cases] => {
             let check = library::CHECK.ok_or_else(|| lacking("CHECK_LIB"))?;
-            Ok(compare::run(number(seed)?, number(cases)?, |question| ask::check(check, question)))
+            let (seed, cases) = (number(seed)?, number(cases)?);
+            let verdicts = ROOTS.map(|root| compare::run(root, seed, cases, |question| ask::check(check, question)));
+            Ok(verdicts == [true; 2])
         }
         ["print", seed, cases] => {
-            let (print, joined) = library::PRINT.zip(library::JOINED).ok_or_else(|| lacking("GLSL_LIB"))?;
-            Ok(compare::run(number(seed)?, number(cases)?, |question| ask::print(print, joined, question)))
+            let joined = library::JOINED.ok_or_else(|| lacking("GLSL_LIB"))?;
+            let (seed, cases) = (number(seed)?, number(cases)?);
+            let verdicts = ROOTS.map(|root| {
+                let Some(print) = library::print(root) else {
+                    println!("{root:?} questions are not asked: the library has no such print");
+                    return true;
+                };
+                compare::run(root, seed, cases, |question| ask::print(print, joined, question))
+            });
+            Ok(verdicts == [true; 2])
         }
         ["speed", seed] => speed::run(number(seed)?).map(|()| true).map_err(|refusal| refusal.to_string()),
         _ => Err(USAGE.to_owned()),

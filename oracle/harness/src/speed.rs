@@ -1,22 +1,25 @@
-//! Times: the libraries' calls, and beside them the Rust module's print of the same trees, built before.
+//! Times: the libraries' calls, and beside them the Rust module's print of the same trees, built before. And how much stack
+//! they take on the deepest trees.
 //!
-//! A time is the least of many runs, since what else the machine does can only add to it. Every unit has its turn before
-//! one comes again: a processor that sees one unit alone soon knows its branches by heart.
+//! A time is the least of many runs, since what else the machine does can only add to it. Every tree has its turn before
+//! one comes again: a processor that sees one tree alone soon knows its branches by heart.
 
-use crate::library;
-use glsl_lang::ast::TranslationUnit;
+use crate::{library, stack, ROOTS};
+use glsl_lang::ast;
+use glsl_lang::transpiler::glsl::FormattingSettings;
 use oracle::answer::{Question, Root};
 use oracle::cases::{large, limits, tight};
 use oracle::random::Random;
 use oracle::record::SIZE;
 use oracle::refusal::Refusal;
-use oracle::tree::many;
+use oracle::tree::{many, var};
 use oracle::{print, read, settings, words};
 use std::hint::black_box;
 use std::time::{Duration, Instant};
 
 const RUNS: usize = 200;
-const UNITS: u64 = 8;
+/// Trees of a sort that is random.
+const TREES: u64 = 8;
 /// About as many records as a tree can have.
 const RECORDS: usize = 4_000;
 /// Names to choose from.
@@ -24,16 +27,26 @@ const NAMES: usize = 256;
 /// Room for every text here.
 const ROOM: usize = 1 << 20;
 
-/// A unit in TIGHT and in OPEN, and its tree.
-struct Unit {
-    tight: Question,
-    open: Question,
-    tree: TranslationUnit,
+/// A tree as the Rust module takes it.
+enum Tree {
+    Unit(ast::TranslationUnit),
+    Expr(ast::Expr),
 }
 
-impl Unit {
+/// A question in TIGHT and in OPEN, and its tree.
+struct Sample {
+    tight: Question,
+    open: Question,
+    tree: Tree,
+}
+
+impl Sample {
     fn new(tight: Question) -> Result<Self, Refusal> {
-        let tree = read::unit(&tight.records, &tight.names)?.tree;
+        let Question { root, records, names, .. } = &tight;
+        let tree = match root {
+            Root::Unit => Tree::Unit(read::unit(records, names)?.tree),
+            Root::Expr => Tree::Expr(read::expr(records, names)?.tree),
+        };
         let open = Question { settings: settings::OPEN.to_vec(), ..tight.clone() };
         Ok(Self { tight, open, tree })
     }
@@ -41,83 +54,154 @@ impl Unit {
     fn records(&self) -> usize {
         self.tight.records.len() / SIZE
     }
+
+    /// The length of the Rust module's text.
+    fn rust_print(&self, settings: &FormattingSettings) -> i64 {
+        let text = match &self.tree {
+            Tree::Unit(unit) => print::unit(unit, settings),
+            Tree::Expr(expr) => print::expr(expr, settings),
+        };
+        // Texts are short.
+        black_box(text).len() as i64
+    }
 }
 
-/// A call on a unit, with a room; the number keeps it from being left out.
-type Run = dyn Fn(&Unit, &mut [u8]) -> i64;
+/// A call on a sample, with a room; the number keeps it from being left out.
+type Run = dyn Fn(&Sample, &mut [u8]) -> i64;
 
-/// A call that is timed.
+/// A call that is measured.
 struct Call {
     name: &'static str,
     run: Box<Run>,
 }
 
 impl Call {
-    fn new(name: &'static str, run: impl Fn(&Unit, &mut [u8]) -> i64 + 'static) -> Self {
+    fn new(name: &'static str, run: impl Fn(&Sample, &mut [u8]) -> i64 + 'static) -> Self {
         Self { name, run: Box::new(run) }
     }
 }
 
-/// The record check first, if there is one; the prints, if there are; and the Rust module's.
-fn calls() -> Result<Vec<Call>, Refusal> {
+/// The record check first, if there is one; the print and the joined question, if there are; and the Rust module's print.
+fn calls(root: Root) -> Result<Vec<Call>, Refusal> {
     let mut calls = Vec::new();
     if let Some(check) = library::CHECK {
-        calls.push(Call::new("check", move |unit, _| check(&unit.tight)));
+        calls.push(Call::new("check", move |sample, _| check(&sample.tight)));
     }
-    if let Some(print) = library::PRINT {
-        calls.push(Call::new("print TIGHT", move |unit, room| print(&unit.tight, room)));
-        calls.push(Call::new("print OPEN", move |unit, room| print(&unit.open, room)));
+    if let Some(print) = library::print(root) {
+        calls.push(Call::new("print TIGHT", move |sample, room| print(&sample.tight, room)));
+        calls.push(Call::new("print OPEN", move |sample, room| print(&sample.open, room)));
+    }
+    if let (Some(joined), Root::Expr) = (library::JOINED, root) {
+        calls.push(Call::new("joined", move |sample, _| joined(&sample.tight)));
     }
     for (name, bytes) in [("Rust TIGHT", settings::TIGHT), ("Rust OPEN", settings::OPEN)] {
         let settings = settings::read(&bytes)?;
-        calls.push(Call::new(name, move |unit, _| black_box(print::unit(&unit.tree, &settings)).len() as i64));
+        calls.push(Call::new(name, move |sample, _| sample.rust_print(&settings)));
     }
     Ok(calls)
 }
 
-/// The least times of each unit, in nanoseconds, by call.
-fn least(calls: &[Call], units: &[Unit]) -> Vec<Vec<f64>> {
+/// Samples of one sort.
+struct Sort {
+    name: String,
+    samples: Vec<Sample>,
+}
+
+impl Sort {
+    fn new(name: impl Into<String>, questions: impl IntoIterator<Item = Question>) -> Result<Self, Refusal> {
+        Ok(Self { name: name.into(), samples: questions.into_iter().map(Sample::new).collect::<Result<_, _>>()? })
+    }
+
+    fn records(&self) -> usize {
+        self.samples.iter().map(Sample::records).sum()
+    }
+}
+
+/// The least times of each sort, in nanoseconds a record, by call.
+fn least(calls: &[Call], sorts: &[Sort]) -> Vec<Vec<f64>> {
     let mut room = vec![0; ROOM];
-    let mut least = vec![vec![Duration::MAX; units.len()]; calls.len()];
+    let none: Vec<Vec<Duration>> = sorts.iter().map(|sort| vec![Duration::MAX; sort.samples.len()]).collect();
+    let mut least = vec![none; calls.len()];
     for _ in 0..RUNS {
         for (call, least) in calls.iter().zip(&mut least) {
-            for (unit, least) in units.iter().zip(least) {
+            for (sample, least) in sorts.iter().flat_map(|sort| &sort.samples).zip(least.iter_mut().flatten()) {
                 let start = Instant::now();
-                black_box((call.run)(unit, &mut room));
+                black_box((call.run)(sample, &mut room));
                 *least = start.elapsed().min(*least);
             }
         }
     }
-    least.into_iter().map(|times| times.into_iter().map(|time| time.as_nanos() as f64).collect()).collect()
+    let each = |sort: usize| {
+        let sum = |times: &Vec<Vec<Duration>>| times[sort].iter().sum::<Duration>().as_nanos() as f64;
+        least.iter().map(|times| sum(times) / sorts[sort].records() as f64).collect()
+    };
+    (0..sorts.len()).map(each).collect()
 }
 
 /// Prints the tables.
 pub fn run(seed: u64) -> Result<(), Refusal> {
-    let calls = calls()?;
-    let sorts = names_by_sort(seed);
-    let large = |make: fn(u64, usize) -> Question| (0..UNITS).map(move |unit| make(seed + unit, RECORDS));
-    let [_, bools] = large::atoms(seed, &[b"x".to_vec()]);
-    let named = sorts.iter().map(|(_, texts)| large::atoms(seed, texts)).map(|[variables, _]| variables);
-    let questions = large(large::grown).chain(large(large::shader)).chain([tight(Root::Unit, many(80, 0), ""), bools]);
-    let units = questions.chain(named).map(Unit::new).collect::<Result<Vec<_>, _>>()?;
-    let least = least(&calls, &units);
-
-    println!("{:<16}{}", "ns a record", calls.iter().map(|call| format!("{:>12}", call.name)).collect::<String>());
-    // The units in their order: UNITS grown ones, as many like a shader's, the empty one, the bools, the names.
-    let many = UNITS as usize;
-    for (name, range) in
-        [("grown", 0..many), ("like a shader's", many..2 * many), ("the least unit", 2 * many..2 * many + 1)]
-    {
-        let records: usize = units[range.clone()].iter().map(Unit::records).sum();
-        let each = least.iter().map(|times| times[range.clone()].iter().sum::<f64>() / records as f64);
-        println!("{name:<16}{}", each.map(|time| format!("{time:>12.1}")).collect::<String>());
+    for root in ROOTS {
+        let calls = calls(root)?;
+        let sorts = sorts(root, seed)?;
+        let heading: String = calls.iter().map(|call| format!("{:>12}", call.name)).collect();
+        println!("{:<20}{heading}", format!("{root:?}, ns a record"));
+        for (sort, times) in sorts.iter().zip(least(&calls, &sorts)) {
+            println!("{:<20}{}", sort.name, times.iter().map(|time| format!("{time:>12.1}")).collect::<String>());
+        }
+        println!("{:<20}{}\n", "bytes of stack", stacks(root, &calls)?);
     }
     if library::CHECK.is_some() {
-        println!("\nns a name in the check, beyond a bool in its place");
-        let (bools, named) = (least[0][2 * many + 1], &least[0][2 * many + 2..]);
-        for ((name, _), time) in sorts.iter().zip(named) {
-            println!("{name:<16}{:>12.1}", (time - bools) / f64::from(large::ATOMS));
-        }
+        names(seed)?;
+    }
+    Ok(())
+}
+
+/// The trees on which times are taken.
+fn sorts(root: Root, seed: u64) -> Result<Vec<Sort>, Refusal> {
+    let seeds = seed..seed + TREES;
+    let least = match root {
+        Root::Unit => many(80, 0),
+        Root::Expr => var(0),
+    };
+    let mut sorts = vec![
+        Sort::new("grown", seeds.clone().map(|seed| large::grown(root, seed, RECORDS)))?,
+        Sort::new("like a shader's", seeds.clone().map(|seed| large::shader(root, seed, RECORDS)))?,
+        Sort::new("the least", [tight(root, least, "x")])?,
+    ];
+    if root == Root::Expr {
+        sorts.push(Sort::new("binary, depth 200", seeds.clone().map(|seed| large::nested(seed, RECORDS)))?);
+        let names = large::shader_names();
+        sorts.push(Sort::new("many arguments", seeds.flat_map(|seed| large::atoms(seed, &names)))?);
+    }
+    Ok(sorts)
+}
+
+/// The most bytes of stack that each call takes on the deepest trees.
+fn stacks(root: Root, calls: &[Call]) -> Result<String, Refusal> {
+    let deepest = Sort::new("deepest", limits::deepest().filter(|question| question.root == root))?;
+    let need = |call: &Call, sample: &Sample| {
+        stack::need(&|| {
+            // A room of its own, from the heap.
+            black_box((call.run)(sample, &mut vec![0; ROOM]));
+        })
+    };
+    let most = calls.iter().map(|call| deepest.samples.iter().map(|sample| need(call, sample)).max().unwrap_or(0));
+    Ok(most.map(|bytes| format!("{bytes:>12}")).collect())
+}
+
+/// Prints what a name costs in the record check, which is the first call.
+fn names(seed: u64) -> Result<(), Refusal> {
+    let [_, bools] = large::atoms(seed, &[b"x".to_vec()]);
+    let mut sorts = vec![Sort::new("a bool", [bools])?];
+    for (name, texts) in names_by_sort(seed) {
+        let [variables, _] = large::atoms(seed, &texts);
+        sorts.push(Sort::new(name, [variables])?);
+    }
+    let least = least(&calls(Root::Expr)?[..1], &sorts);
+    println!("ns a name in the check, beyond a bool in its place");
+    for (sort, times) in sorts.iter().zip(&least).skip(1) {
+        let beyond = (times[0] - least[0][0]) * sort.records() as f64 / f64::from(large::ATOMS);
+        println!("{:<20}{beyond:>12.1}", sort.name);
     }
     Ok(())
 }

@@ -1,54 +1,72 @@
-//! Units of many records, on which times are taken: grown ones, ones like a shader's, and calls with many names.
+//! Trees of many records, on which times are taken: grown ones, ones like a shader's, deep ones, and calls with many names.
 
 use super::tight;
 use crate::answer::{Question, Root};
 use crate::grow;
 use crate::random::Random;
+use crate::read::{DEEPEST, MOST_NAMES};
 use crate::record::{Record, SIZE};
-use crate::tree::{all, function, many, plain, var};
+use crate::tree::{all, many, var};
 
 /// Why a number fits its field.
-const SMALL: &str = "a unit has at most 4,096 records and 32,768 bytes of names";
+const SMALL: &str = "a tree has at most 4,096 records and 32,768 bytes of names";
 
-/// A unit of at most so many records: the declarations of grown units, one behind the other.
-pub fn grown(seed: u64, size: usize) -> Question {
-    let mut unit = Unit::new(seed);
+/// A tree of at most so many records: the declarations of grown units, one behind the other, or grown expressions as the
+/// arguments of one call.
+pub fn grown(root: Root, seed: u64, size: usize) -> Question {
+    let mut whole = Whole::new(root, seed);
     for case in 0.. {
-        let part = grow::question(seed, case);
-        if part.root == Root::Unit && !unit.take(&part, size) {
+        if !whole.take(&grow::rooted(root, seed, case), size) {
             break;
         }
     }
-    unit.question()
+    whole.question()
 }
 
-/// A unit that is being put together.
-struct Unit {
+/// A tree that is being put together: a unit, or a call of `f`, which has as many children as there will be.
+struct Whole {
+    root: Root,
     random: Random,
     children: u16,
     records: Vec<u8>,
     names: Vec<u8>,
 }
 
-impl Unit {
-    fn new(seed: u64) -> Self {
-        Self { random: Random::new(seed, 0), children: 0, records: Vec::new(), names: Vec::new() }
+impl Whole {
+    fn new(root: Root, seed: u64) -> Self {
+        let names = match root {
+            Root::Unit => Vec::new(),
+            Root::Expr => b"f".to_vec(),
+        };
+        Self { root, random: Random::new(seed, 0), children: 0, records: Vec::new(), names }
     }
 
-    /// The number of records, the root included.
+    /// What stands in front of the children.
+    fn front(&self) -> Vec<u8> {
+        match self.root {
+            Root::Unit => many(80, self.children),
+            Root::Expr => all(&[&many(12, self.children), &var(0)]),
+        }
+    }
+
+    /// The number of records.
     fn size(&self) -> usize {
-        1 + self.records.len() / SIZE
+        (self.front().len() + self.records.len()) / SIZE
     }
 
-    /// Takes another unit's declarations, if they fit.
+    /// Takes another unit's declarations, or an expression, if there is room.
     fn take(&mut self, part: &Question, size: usize) -> bool {
         let shift = u32::try_from(self.names.len()).expect(SMALL);
-        let (root, rest) = part.records.as_chunks::<SIZE>().0.split_first().expect("a grown tree has a root");
-        let fits = self.size() + rest.len() <= size && self.names.len() + part.names.len() <= crate::read::MOST_NAMES;
+        let records = part.records.as_chunks::<SIZE>().0;
+        let (children, taken) = match part.root {
+            Root::Unit => (Record::from_bytes(&records[0]).count, &records[1..]),
+            Root::Expr => (1, records),
+        };
+        let fits = self.size() + taken.len() <= size && self.names.len() + part.names.len() <= MOST_NAMES;
         if fits {
-            self.children += Record::from_bytes(root).count;
+            self.children += children;
             self.names.extend(&part.names);
-            for bytes in rest {
+            for bytes in taken {
                 let record = Record::from_bytes(bytes);
                 // What has a length has a text.
                 let a = if record.b == 0 { record.a } else { record.a + shift };
@@ -59,7 +77,7 @@ impl Unit {
     }
 
     fn question(self) -> Question {
-        tight(Root::Unit, all(&[&many(80, self.children), &self.records]), self.names)
+        tight(self.root, all(&[&self.front(), &self.records]), self.names)
     }
 }
 
@@ -126,33 +144,37 @@ pub fn shader_names() -> Vec<Vec<u8>> {
 /// Where the words of a table lie in the names.
 type Pool = Vec<(u32, u32)>;
 
-/// Writes a unit like a shader's.
+/// Writes a tree like a shader's.
 struct Shader {
-    unit: Unit,
+    whole: Whole,
     variables: Pool,
     functions: Pool,
     fields: Pool,
     floats: Pool,
 }
 
-/// A unit like a shader's, of about so many records: declarations, and functions with statements that are mostly
-/// expressions; names are words of one to sixteen letters, each once in the names.
-pub fn shader(seed: u64, size: usize) -> Question {
-    let mut unit = Unit::new(seed);
-    let names = &mut unit.names;
-    let [variables, functions, fields, floats] = [&VARIABLES[..], &FUNCTIONS, &FIELDS, &FLOATS].map(|w| pool(names, w));
-    let mut shader = Shader { unit, variables, functions, fields, floats };
-    for _ in 0..12 {
-        shader.global();
+/// A tree like a shader's, of about so many records: declarations, and functions with statements that are mostly
+/// expressions, or such expressions alone; names are words of one to sixteen letters, each once in the names.
+pub fn shader(root: Root, seed: u64, size: usize) -> Question {
+    let mut shader = Shader::new(root, seed);
+    match root {
+        Root::Unit => shader.fill_unit(size),
+        Root::Expr => shader.fill_call(size),
     }
-    // A function has some 150 records, at most about 500.
-    while shader.unit.size() + 500 <= size {
-        shader.function();
+    shader.whole.question()
+}
+
+/// A call of at most so many records whose arguments are binary operators in one another, as deep as can be, each with
+/// a variable for its other operand.
+pub fn nested(seed: u64, size: usize) -> Question {
+    // The call is at 1, the innermost operand at the greatest depth.
+    const OPERATORS: usize = DEEPEST - 2;
+    let mut shader = Shader::new(Root::Expr, seed);
+    while shader.whole.size() + 2 * OPERATORS < size {
+        shader.whole.children += 1;
+        shader.nest(OPERATORS);
     }
-    while shader.unit.size() + 8 <= size {
-        shader.global();
-    }
-    shader.unit.question()
+    shader.whole.question()
 }
 
 /// Puts words behind the names.
@@ -168,13 +190,58 @@ fn put(names: &mut Vec<u8>, text: &[u8]) -> (u32, u32) {
 }
 
 impl Shader {
+    fn new(root: Root, seed: u64) -> Self {
+        let mut whole = Whole::new(root, seed);
+        let names = &mut whole.names;
+        let [variables, functions, fields, floats] =
+            [&VARIABLES[..], &FUNCTIONS, &FIELDS, &FLOATS].map(|words| pool(names, words));
+        Self { whole, variables, functions, fields, floats }
+    }
+
+    fn fill_unit(&mut self, size: usize) {
+        for _ in 0..12 {
+            self.global();
+        }
+        // A function has some 150 records, at most about 500.
+        while self.whole.size() + 500 <= size {
+            self.function();
+        }
+        while self.whole.size() + 8 <= size {
+            self.global();
+        }
+    }
+
+    fn fill_call(&mut self, size: usize) {
+        // An expression has some 10 records, at most about 300.
+        while self.whole.size() + 300 <= size {
+            self.whole.children += 1;
+            self.expr(4);
+        }
+    }
+
+    /// So many binary operators in one another, on the left or on the right.
+    fn nest(&mut self, operators: usize) {
+        let Some(inside) = operators.checked_sub(1) else {
+            return self.put_variable(1, 0);
+        };
+        let op = self.whole.random.byte(18);
+        self.put(8, op, 0);
+        if self.whole.random.chance(50) {
+            self.nest(inside);
+            self.put_variable(1, 0);
+        } else {
+            self.put_variable(1, 0);
+            self.nest(inside);
+        }
+    }
+
     fn put(&mut self, kind: u8, variant: u8, count: usize) {
         self.put_text(kind, variant, count, (0, 0));
     }
 
     fn put_text(&mut self, kind: u8, variant: u8, count: usize, (a, b): (u32, u32)) {
         let count = u16::try_from(count).expect(SMALL);
-        self.unit.records.extend(Record { kind, variant, count, a, b }.to_bytes());
+        self.whole.records.extend(Record { kind, variant, count, a, b }.to_bytes());
     }
 
     fn one_of(random: &mut Random, pool: &Pool) -> (u32, u32) {
@@ -182,35 +249,35 @@ impl Shader {
     }
 
     fn put_variable(&mut self, kind: u8, variant: u8) {
-        let name = Self::one_of(&mut self.unit.random, &self.variables);
+        let name = Self::one_of(&mut self.whole.random, &self.variables);
         self.put_text(kind, variant, 0, name);
     }
 
     /// A keyword type: float and the vectors, mostly.
     fn keyword(&mut self) {
-        let word = self.unit.random.weighted(&[(30, 4), (10, 2), (15, 6), (25, 7), (15, 8), (5, 23)]).unwrap_or(4);
+        let word = self.whole.random.weighted(&[(30, 4), (10, 2), (15, 6), (25, 7), (15, 8), (5, 23)]).unwrap_or(4);
         self.put(20, 0, 0);
         self.put(21, word, 0);
     }
 
     /// `uniform vec3 name;`, or in, out, const.
     fn global(&mut self) {
-        self.unit.children += 1;
+        self.whole.children += 1;
         self.put(47, 1, 0);
         self.put(42, 0, 0);
         self.put_variable(43, 1);
         self.put(31, 1, 0);
         self.put(28, 0, 1);
-        let word = self.unit.random.weighted(&[(50, 7), (25, 2), (25, 3)]).unwrap_or(7);
+        let word = self.whole.random.weighted(&[(50, 7), (25, 2), (25, 3)]).unwrap_or(7);
         self.put(29, word, 0);
         self.keyword();
     }
 
     fn function(&mut self) {
-        self.unit.children += 1;
-        let parameters = self.unit.random.between(0, 3);
+        self.whole.children += 1;
+        let parameters = self.whole.random.between(0, 3);
         self.put(81, 0, 0);
-        let name = Self::one_of(&mut self.unit.random, &self.functions);
+        let name = Self::one_of(&mut self.whole.random, &self.functions);
         self.put_text(40, 0, parameters, name);
         self.put(31, 0, 0);
         self.keyword();
@@ -219,7 +286,7 @@ impl Shader {
             self.keyword();
             self.put_variable(27, 0);
         }
-        let statements = self.unit.random.between(4, 10);
+        let statements = self.whole.random.between(4, 10);
         self.block(statements, 2);
     }
 
@@ -232,7 +299,7 @@ impl Shader {
 
     fn statement(&mut self, depth: usize) {
         let deeper = if depth > 0 { 1 } else { 0 };
-        let sort = self.unit.random.weighted(&[(35, 0), (45, 1), (8, 2), (12 * deeper, 3), (5 * deeper, 4)]);
+        let sort = self.whole.random.weighted(&[(35, 0), (45, 1), (8, 2), (12 * deeper, 3), (5 * deeper, 4)]);
         match sort {
             Some(0) => self.local(),
             Some(2) => {
@@ -240,11 +307,11 @@ impl Shader {
                 self.expr(3);
             }
             Some(3) => {
-                let variant = self.unit.random.byte(1);
+                let variant = self.whole.random.byte(1);
                 self.put(62, variant, 0);
                 self.expr(2);
                 for _ in 0..=variant {
-                    let statements = self.unit.random.between(1, 3);
+                    let statements = self.whole.random.between(1, 3);
                     self.block(statements, depth - 1);
                 }
             }
@@ -280,8 +347,8 @@ impl Shader {
 
     /// A variable, or a field of one.
     fn place(&mut self) {
-        if self.unit.random.chance(40) {
-            let name = Self::one_of(&mut self.unit.random, &self.fields);
+        if self.whole.random.chance(40) {
+            let name = Self::one_of(&mut self.whole.random, &self.fields);
             self.put_text(13, 0, 0, name);
         }
         self.put_variable(1, 0);
@@ -289,30 +356,36 @@ impl Shader {
 
     fn expr(&mut self, depth: usize) {
         let deeper = if depth > 0 { 1 } else { 0 };
-        let sort =
-            self.unit.random.weighted(&[(20, 0), (10, 1), (4, 2), (35 * deeper, 3), (16 * deeper, 4), (5 * deeper, 5)]);
+        let sort = self.whole.random.weighted(&[
+            (20, 0),
+            (10, 1),
+            (4, 2),
+            (35 * deeper, 3),
+            (16 * deeper, 4),
+            (5 * deeper, 5),
+        ]);
         match sort {
             Some(1) => {
-                let text = Self::one_of(&mut self.unit.random, &self.floats);
+                let text = Self::one_of(&mut self.whole.random, &self.floats);
                 self.put_text(5, 0, 0, text);
             }
             Some(2) => {
-                let a = self.unit.random.bits32() % 16;
+                let a = self.whole.random.bits32() % 16;
                 self.put_text(2, 0, 0, (a, 0));
             }
             Some(3) => {
-                let op = self.unit.random.weighted(&[(30, 16), (30, 14), (20, 15), (10, 17), (10, 8)]).unwrap_or(14);
+                let op = self.whole.random.weighted(&[(30, 16), (30, 14), (20, 15), (10, 17), (10, 8)]).unwrap_or(14);
                 self.put(8, op, 0);
                 self.expr(depth - 1);
                 self.expr(depth - 1);
             }
             Some(4) => {
-                let arguments = self.unit.random.between(1, 3);
+                let arguments = self.whole.random.between(1, 3);
                 self.put(12, 0, arguments);
-                if self.unit.random.chance(30) {
+                if self.whole.random.chance(30) {
                     self.keyword();
                 } else {
-                    let name = Self::one_of(&mut self.unit.random, &self.functions);
+                    let name = Self::one_of(&mut self.whole.random, &self.functions);
                     self.put_text(1, 0, 0, name);
                 }
                 for _ in 0..arguments {
@@ -331,22 +404,21 @@ impl Shader {
 /// Arguments of the calls that [`atoms`] makes.
 pub const ATOMS: u16 = 4_000;
 
-/// Two units with one call of [`ATOMS`] arguments: each a variable, named by one of the texts at random; each a bool.
+/// Two calls of [`ATOMS`] arguments: each a variable, named by one of the texts at random; each a bool.
 pub fn atoms(seed: u64, texts: &[Vec<u8>]) -> [Question; 2] {
-    let mut random = Random::new(seed, 0);
-    let mut names = b"f".to_vec();
-    let places: Pool = texts.iter().map(|text| put(&mut names, text)).collect();
-    let mut unit = |mut atom: Box<dyn FnMut(&mut Random) -> Record + '_>| {
-        let before = all(&[&many(80, 1), &function(0), &many(60, 1), &plain(61, 1), &many(12, ATOMS), &var(0)]);
-        let atoms = (0..ATOMS).flat_map(|_| atom(&mut random).to_bytes());
-        tight(Root::Unit, before.into_iter().chain(atoms).collect(), names.clone())
-    };
-    let variables = unit(Box::new(|random| {
+    let mut whole = Whole::new(Root::Expr, seed);
+    let places: Pool = texts.iter().map(|text| put(&mut whole.names, text)).collect();
+    whole.children = ATOMS;
+    let Whole { random, names, .. } = &mut whole;
+    let variables = (0..ATOMS).map(|_| {
         let (a, b) = Shader::one_of(random, &places);
         Record { kind: 1, a, b, ..Record::default() }
-    }));
-    let bools = unit(Box::new(|random| Record { kind: 4, variant: random.byte(1), ..Record::default() }));
-    [variables, bools]
+    });
+    let variables: Vec<u8> = variables.flat_map(Record::to_bytes).collect();
+    let bools = (0..ATOMS).map(|_| Record { kind: 4, variant: random.byte(1), ..Record::default() });
+    let bools: Vec<u8> = bools.flat_map(Record::to_bytes).collect();
+    let names = std::mem::take(names);
+    [variables, bools].map(|atoms| tight(Root::Expr, all(&[&whole.front(), &atoms]), names.clone()))
 }
 
 #[cfg(test)]
@@ -359,20 +431,29 @@ mod tests {
     }
 
     #[test]
-    fn large_units_are_good_and_large() {
+    fn large_trees_are_good_and_large() {
         for seed in 0..20 {
-            for unit in [grown(seed, 4_000), shader(seed, 4_000)] {
-                assert!(is_good(&unit), "seed {seed}");
-                assert!((3_400..=4_000).contains(&(unit.records.len() / SIZE)), "seed {seed}");
+            let both = [Root::Unit, Root::Expr].map(|root| [grown(root, seed, 4_000), shader(root, seed, 4_000)]);
+            for tree in both.into_iter().flatten().chain([nested(seed, 4_000)]) {
+                assert!(is_good(&tree), "seed {seed}");
+                assert!((3_400..=4_000).contains(&(tree.records.len() / SIZE)), "seed {seed}");
             }
         }
     }
 
     #[test]
+    fn nested_trees_are_as_deep_as_can_be() {
+        let Question { root, records, names, .. } = nested(1, 4_000);
+        let deeper = all(&[&crate::tree::plain(7, 4), &records]);
+        let refusal = crate::read::refusal(&tight(root, deeper, names));
+        assert_eq!(refusal.map(|refusal| refusal.number()), Some(6));
+    }
+
+    #[test]
     fn atoms_are_good() {
-        for unit in atoms(1, &[b"a".to_vec(), b"bc".to_vec()]) {
-            assert!(is_good(&unit));
-            assert_eq!(unit.records.len() / SIZE, 4_010);
+        for call in atoms(1, &[b"a".to_vec(), b"bc".to_vec()]) {
+            assert!(is_good(&call));
+            assert_eq!(call.records.len() / SIZE, 4_002);
         }
     }
 }

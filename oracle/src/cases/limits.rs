@@ -40,6 +40,11 @@ impl Nest {
         let inner = front.len() - 2 * self.open.len()..front.len() + self.inner.len();
         (tight(self.root, records, NAMES), inner)
     }
+
+    /// The fewest layers that are too deep.
+    fn first_too_deep(&self) -> usize {
+        (2..).find(|&layers| is_too_deep(&self.of(layers).0)).unwrap_or(2)
+    }
 }
 
 /// One nest for each way in which kinds can hold each other without end.
@@ -114,10 +119,15 @@ fn with_bytes_set(
     std::iter::once(whole).chain(damaged)
 }
 
+/// The deepest good tree of every nest.
+pub fn deepest() -> impl Iterator<Item = Question> {
+    nests().into_iter().map(|nest| nest.of(nest.first_too_deep() - 1).0)
+}
+
 /// Trees of every nest around the greatest depth, whole and with damages in the deepest records.
 pub fn deep() -> impl Iterator<Item = Question> {
     nests().into_iter().flat_map(|nest| {
-        let first = (2..).find(|&layers| is_too_deep(&nest.of(layers).0)).unwrap_or(2);
+        let first = nest.first_too_deep();
         let trees: Vec<_> = (first - 2..first + 2).map(|layers| nest.of(layers)).collect();
         trees.into_iter().flat_map(|(question, inner)| with_bytes_set(question, inner, [0, 1, 47, 255]))
     })
@@ -297,11 +307,10 @@ mod tests {
 
     #[test]
     fn every_nest_meets_the_limit() {
-        for (at, nest) in nests().into_iter().enumerate() {
-            let first = (2..=200).find(|&layers| is_too_deep(&nest.of(layers).0));
-            let last = first.map(|first| nest.of(first - 1).0);
-            assert!(last.is_some_and(|question| read::refusal(&question).is_none()), "nest {at}");
+        for (at, nest) in nests().iter().enumerate() {
+            assert!((3..=200).contains(&nest.first_too_deep()), "nest {at}");
         }
+        assert!(deepest().all(|question| read::refusal(&question).is_none()));
     }
 
     #[test]
@@ -312,7 +321,7 @@ mod tests {
 
     #[test]
     fn deep_trees_stand_around_the_limit() {
-        let trees = crate::cases::cover::smallest(1, 2_000);
+        let trees = [Root::Unit, Root::Expr].map(|root| crate::cases::cover::smallest(root, 1, 1_000)).concat();
         let numbers = numbers(deep_trees(&trees));
         assert!([0, 4, 5, 6, 7].iter().all(|number| numbers.contains_key(number)), "{numbers:?}");
         // A declaration of precision at 200: its word is too deep, whatever its variant.

@@ -1,5 +1,5 @@
 //! Questions on which a printer is compared with the oracle: whole trees and damaged ones, short inputs, and inputs at
-//! document 01's limits. [`large`] makes the units on which times are taken.
+//! document 01's limits. [`large`] makes the trees on which times are taken.
 //!
 //! Most are iterators that make a question when it is asked for; what is random goes by seed, so that it can be had again.
 

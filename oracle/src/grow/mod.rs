@@ -19,16 +19,14 @@ const SMALL: &str = "a grown tree is small";
 
 /// The question of a seed and a case. Its tree is one that document 01 accepts, with float texts that Display gives.
 pub fn question(seed: u64, case: u64) -> Question {
-    let mut grower =
-        Grower { random: Random::new(seed, case), records: Vec::new(), names: Vec::new(), known: Vec::new() };
+    let mut grower = Grower::new(seed, case);
     let root = if grower.random.chance(50) { Root::Unit } else { Root::Expr };
-    let settings = grower.settings();
-    let room = grower.room();
-    match root {
-        Root::Unit => grower.unit(room),
-        Root::Expr => grower.expr(room),
-    }
-    Question { root, settings, records: grower.records, names: grower.names }
+    grower.question(root)
+}
+
+/// The same with a root that is given.
+pub fn rooted(root: Root, seed: u64, case: u64) -> Question {
+    Grower::new(seed, case).question(root)
 }
 
 /// Grows one tree.
@@ -41,6 +39,20 @@ struct Grower {
 }
 
 impl Grower {
+    fn new(seed: u64, case: u64) -> Self {
+        Self { random: Random::new(seed, case), records: Vec::new(), names: Vec::new(), known: Vec::new() }
+    }
+
+    fn question(mut self, root: Root) -> Question {
+        let settings = self.settings();
+        let room = self.room();
+        match root {
+            Root::Unit => self.unit(room),
+            Root::Expr => self.expr(room),
+        }
+        Question { root, settings, records: self.records, names: self.names }
+    }
+
     /// Settings: TIGHT, OPEN, or anything in range.
     fn settings(&mut self) -> Vec<u8> {
         match self.random.weighted(&[(15, Some(settings::TIGHT)), (15, Some(settings::OPEN)), (70, None)]).flatten() {

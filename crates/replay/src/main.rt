@@ -1,0 +1,178 @@
+// Replays a sample of the oracle's answers about expressions (oracle/src/sample.rs writes it and has its format): asks the public calls again, and compares
+// answers and every byte of the room. Reading is total: what stands beyond the sample's end reads as nothing, and then the answers differ.
+ghost use Rattle.io.specs.Counts.{Counts};
+use glsl::Printed;
+use glsl::Whether;
+use libc::STDOUT_FILENO;
+
+// The bytes of a record, and of the three records that begin a case.
+const RECORD: u32 = 12;
+
+const HEAD: u32 = 36;
+
+// What a room holds before a call.
+const BLANK: u8 = 165;
+
+// An answer as the sample has it: a refusal's number, 0 for none, and the value beside it.
+struct Answer {
+    number: u64,
+    value: u64,
+}
+
+fn print_answer(o: Printed) -> Answer {
+    match o {
+        Printed::Text(n) => Answer {
+            number: 0,
+            value: n as u64,
+        },
+        Printed::Refused(x, p) => Answer {
+            number: checks::number_of(x),
+            value: p as u64,
+        },
+    }
+}
+
+fn joined_answer(o: Whether) -> Answer {
+    match o {
+        Whether::No => Answer {
+            number: 0,
+            value: 0,
+        },
+        Whether::Yes => Answer {
+            number: 0,
+            value: 1,
+        },
+        Whether::Refused(x, p) => Answer {
+            number: checks::number_of(x),
+            value: p as u64,
+        },
+    }
+}
+
+// Whether an answer is the one that the sample has.
+fn is(o: Answer, number: u8, value: u32) -> bool {
+    o.number == number as u64 && o.value == value as u64
+}
+
+// Where n bytes from `at` on end, at most the greatest number.
+fn end_of(at: u32, n: u32) -> u32 {
+    if n <= 4294967295 - at {
+        at + n
+    } else {
+        4294967295
+    }
+}
+
+// Whether the print answers so, and leaves a blank room as it is said to.
+fn prints_so(
+    settings: &[u8],
+    tree: &[u8],
+    names: &[u8],
+    room: &mut [u8],
+    number: u8,
+    value: u32,
+    after: &[u8],
+) -> bool {
+    let n = room.len();
+    room::lay_run(room, 0, BLANK, n);
+    let print = print_answer(glsl::print_expr_into(settings, tree, names, room));
+    is(print, number, value) && words::same(room, after)
+}
+
+// The same in the front of a room, as long as what is behind the call.
+fn prints_so_in_front(
+    settings: &[u8],
+    tree: &[u8],
+    names: &[u8],
+    room: &mut [u8],
+    number: u8,
+    value: u32,
+    after: &[u8],
+) -> bool {
+    let n = after.len();
+    if room.len() < n {
+        return false;
+    }
+    prints_so(settings, tree, names, &mut room[..n], number, value, after)
+}
+
+// Whether the calls answer as the case at a place says.
+fn agrees(sample: &[u8], place: u32, room: &mut [u8]) -> bool {
+    let head = records::part_of(sample, place, HEAD);
+    let first = records::record_at(head, 0);
+    let second = records::record_at(head, 1);
+    let third = records::record_at(head, 2);
+    let settings_at = end_of(place, HEAD);
+    let tree_at = end_of(settings_at, first.a);
+    let names_at = end_of(tree_at, first.b);
+    let after_at = end_of(names_at, second.a);
+    let settings = records::part_of(sample, settings_at, first.a);
+    let tree = records::part_of(sample, tree_at, first.b);
+    let names = records::part_of(sample, names_at, second.a);
+    let after = records::part_of(sample, after_at, second.b);
+    let joined = joined_answer(glsl::joined(tree, names));
+    is(joined, second.kind, third.b)
+        && prints_so_in_front(settings, tree, names, room, first.kind, third.a, after)
+}
+
+// Where the case behind the one at a place begins.
+fn next(sample: &[u8], place: u32) -> u32 {
+    let head = records::part_of(sample, place, HEAD);
+    let first = records::record_at(head, 0);
+    let second = records::record_at(head, 1);
+    let names_at = end_of(end_of(end_of(place, HEAD), first.a), first.b);
+    end_of(end_of(names_at, second.a), second.b)
+}
+
+// How many cases the sample says that it has.
+fn cases_in(sample: &[u8]) -> u32 {
+    let first = records::record_at(sample, 0);
+    first.a
+}
+
+// The number of the first case that differs, 0 for none.
+fn first_differing(sample: &[u8], room: &mut [u8]) -> u32 {
+    let cases = cases_in(sample);
+    let mut place: u32 = RECORD;
+    let mut k: u32 = 0;
+    while k < cases {
+        k += 1;
+        if !agrees(sample, place, room) {
+            return k;
+        }
+        place = next(sample, place);
+    }
+    0
+}
+
+fn report(cases: u32, differing: u32) {
+    if differing == 0 {
+        io::print_decimal(STDOUT_FILENO, cases as u64);
+        io::write_all(STDOUT_FILENO, b" cases, 0 differ\n");
+    } else {
+        io::write_all(STDOUT_FILENO, b"case ");
+        io::print_decimal(STDOUT_FILENO, differing as u64);
+        io::write_all(STDOUT_FILENO, b" differs\n");
+    }
+}
+
+// What a file holds, at most the buffer; nothing where it can't be opened.
+fn load(path: &[u8], buf: &mut [u8]) -> usize
+    ensures { λ r. ⌜ Counts r (now (buf .exit)) ⌝ }
+{
+    let fd = os::open_read(path);
+    if fd < 0 {
+        return 0;
+    }
+    let n = io::read_full(fd, buf);
+    libc::close(fd);
+    n
+}
+
+fn main() {
+    let mut bytes = [0u8; 524288];
+    let mut room = [0u8; 16384];
+    let n = load(b"expressions.rec", &mut bytes);
+    let sample = &bytes[..n];
+    report(cases_in(sample), first_differing(sample, &mut room));
+}
