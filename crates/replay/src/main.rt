@@ -1,6 +1,9 @@
 // Replays a sample of the oracle's answers about expressions (oracle/src/sample.rs writes it and has its format): asks the public calls again, and compares
 // answers and every byte of the room. Reading is total: what stands beyond the sample's end reads as nothing, and then the answers differ.
+ghost use mathlib.Core.Path.{_≡_};
 ghost use Rattle.io.specs.Counts.{Counts};
+ghost use Rattle.glsl.specs.Printed.{refusalNumber, value};
+ghost use Rattle.glsl.specs.Joined.{joinedNumber};
 use glsl::Printed;
 use glsl::Whether;
 use libc::STDOUT_FILENO;
@@ -19,7 +22,9 @@ struct Answer {
     value: u64,
 }
 
-fn print_answer(o: Printed) -> Answer {
+fn print_answer(o: Printed) -> Answer
+    ensures { λ r. ⌜ (r .number ≡ refusalNumber o) × (r .value ≡ value o) ⌝ }
+{
     match o {
         Printed::Text(n) => Answer {
             number: 0,
@@ -32,7 +37,9 @@ fn print_answer(o: Printed) -> Answer {
     }
 }
 
-fn joined_answer(o: Whether) -> Answer {
+fn joined_answer(o: Whether) -> Answer
+    ensures { λ r. ⌜ r .number ≡ joinedNumber o ⌝ }
+{
     match o {
         Whether::No => Answer {
             number: 0,
