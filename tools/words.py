@@ -49,7 +49,6 @@ for name, file, entries, kind, function in SECTIONS:
     if file != 'Symbol':
         words_count = len(rows)
 words = rows[:words_count]
-lone = [(w, w.strip('«»'), starts['lone'] + k) for k, w in enumerate(listed('Word', 'loneWords'))]
 
 # what a definition must unfold for all texts to be seen
 TEXTS = ('texts fixedWords typeKeywords otherWords qualifierWords jumpWords boolWords loneWords wordText'
@@ -95,7 +94,7 @@ def write(name, text):
 
 def constants():
     plural = {'type': 'TYPES', 'qualifier': 'QUALIFIERS', 'jump': 'JUMPS', 'bool': 'BOOLS'}
-    named = [(plural.get(n, n.upper()), at) for n, at in starts.items() if n != 'lone'] + [(n.upper(), at) for _, n, at in lone] + [('ROWS', len(rows))]
+    named = [(plural.get(n, n.upper()), at) for n, at in starts.items() if n != 'lone'] + [('ROWS', len(rows))]
     return '\n\n'.join('pub const %s: usize = %d;' % c for c in sorted(named, key=lambda c: c[1]))
 
 
@@ -111,7 +110,7 @@ first_slot = len(rows) * (WIDEST + 1)
 write('src/rows.rt', f'''// The table's bytes, and where its sections begin. Written by tools/words.py from the word list in specs/.
 pub type Words = [u8; {first_slot + SLOTS + 256}];
 
-// The row at which each section begins (by variant from there on), the row of each lone word, and the number of rows.
+// The row at which each section begins, by variant from there on, and the number of rows. (The lone words between them are looked for, and written as they are.)
 {constants()}
 
 // Where the rows of the slots stand, and the flaws of the bytes.
@@ -149,10 +148,6 @@ def row_law(name, file, entries, kind, function):
             f'{name}-row v h d = section {function} {at} {entries} refl v h d\n')
 
 
-def lone_law(word, name, at):
-    return f'pub {name}-row : textAt {at} ≡ bytes (wordText Word.{word})\nunfolding textAt {TEXTS}\n{name}-row = refl\n'
-
-
 def apart_law(name, entries, kind, function):
     """No two rows of a section have one text."""
     n, at = sizes[name], starts[name]
@@ -161,7 +156,7 @@ def apart_law(name, entries, kind, function):
 
 
 write('proofs/Sections.antt', '\n'.join([
-    '''-- The rows by what they hold: a law for each section, over the variant, and for each lone word; and that no two rows of a section have one text. Written by
+    '''-- The rows by what they hold: a law for each section, over the variant; and that no two rows of a section have one text. Written by
 -- tools/words.py. Assumes nothing.
 use mathlib.Core.Path.{_≡_, refl, sym, _∙_, ap}
 use mathlib.Core.List.{map}
@@ -177,7 +172,6 @@ use Rattle.words.proofs.Places.{section-text, section}
 use Rattle.words.proofs.Rule.{different, rows-apart}
 ''',
     *(row_law(*s) for s in SECTIONS),
-    *(lone_law(*w) for w in lone),
     f'''pub word-apart : (j k : ℕ) → j < {words_count} → k < {words_count} → textAt j ≡ textAt k → j ≡ k
 unfolding different oneOf same {TEXTS}
 word-apart j k hj hk e = rows-apart 0 fixedWords refl tt j k hj hk (ap textAt (zero-add j) ∙ e ∙ ap textAt (sym (zero-add k)))

@@ -438,8 +438,7 @@ single-item Statements.no-statements = false
 single-item (Statements.statements s Statements.no-statements) = true
 single-item (Statements.statements s (Statements.statements t ts)) = false
 
--- show_compound_statement, from the commands of its statements. 000 collapses where the setting says so, there is one statement, and no function's body
--- begins here: the last is known to whoever calls.
+-- in show_compound_statement: collapsed or in braces, from the commands of its statements
 abbrev pub compound : (collapsed : Bool) → List Command → List Command
 compound true cs = enter-collapsed-compound-statement ++ (consume-function-definition-statement ∷ cs) ++ exit-collapsed-compound-statement
 compound false cs = enter-compound-statement-block ++ (consume-function-definition-statement ∷ cs) ++ exit-block
@@ -475,12 +474,16 @@ module _ (collapse : Bool) where
     show-statements Statements.no-statements = []
     show-statements (Statements.statements s ss) = show-statement s ++ show-statements ss
 
+  -- 000 collapses where the setting says so, there is one statement, and no function's body begins here; the last is known to whoever asks (within
+  -- show-statement, where it is no function's body, the same is written out)
+  abbrev pub show-compound-statement : (body : Bool) → Statements → List Command
+  show-compound-statement body ss = compound (not body && collapse && single-item ss) (show-statements ss)
+
   -- the unit
 
-  -- a function's body is never collapsed
   unfoldable pub show-function-definition : FunctionPrototype → Statements → List Command
   show-function-definition p ss =
-      show-function-prototype p ++ (enter-function-definition-statement ∷ compound false (show-statements ss)) ++ (flush-line ∷ write-function-definition-terminator)
+      show-function-prototype p ++ (enter-function-definition-statement ∷ show-compound-statement true ss) ++ (flush-line ∷ write-function-definition-terminator)
 
   unfoldable pub show-external-declaration : ExternalDeclaration → List Command
   show-external-declaration ExternalDeclaration.no-external = enter-external-declaration

@@ -1,4 +1,4 @@
--- The rows by what they hold: a law for each section, over the variant, and for each lone word; and that no two rows of a section have one text. Written by
+-- The rows by what they hold: a law for each section, over the variant; and that no two rows of a section have one text. Written by
 -- tools/words.py. Assumes nothing.
 use mathlib.Core.Path.{_≡_, refl, sym, _∙_, ap}
 use mathlib.Core.List.{map}
@@ -44,46 +44,6 @@ binary-row v h d = section symbolText 100 binaryOperators refl v h d
 pub assignment-row : (v : ℕ) → v < 11 → (d : Symbol) → textAt (119 + v) ≡ bytes (symbolText (getD assignmentOperators v d))
 unfolding texts fixedWords typeKeywords otherWords qualifierWords jumpWords boolWords loneWords wordText operators symbolText unaryOperators binaryOperators assignmentOperators
 assignment-row v h d = section symbolText 119 assignmentOperators refl v h d
-
-pub precision-row : textAt 84 ≡ bytes (wordText Word.precision)
-unfolding textAt texts fixedWords typeKeywords otherWords qualifierWords jumpWords boolWords loneWords wordText operators symbolText unaryOperators binaryOperators assignmentOperators
-precision-row = refl
-
-pub struct-row : textAt 85 ≡ bytes (wordText Word.struct)
-unfolding textAt texts fixedWords typeKeywords otherWords qualifierWords jumpWords boolWords loneWords wordText operators symbolText unaryOperators binaryOperators assignmentOperators
-struct-row = refl
-
-pub if-row : textAt 86 ≡ bytes (wordText Word.if)
-unfolding textAt texts fixedWords typeKeywords otherWords qualifierWords jumpWords boolWords loneWords wordText operators symbolText unaryOperators binaryOperators assignmentOperators
-if-row = refl
-
-pub else-row : textAt 87 ≡ bytes (wordText Word.else)
-unfolding textAt texts fixedWords typeKeywords otherWords qualifierWords jumpWords boolWords loneWords wordText operators symbolText unaryOperators binaryOperators assignmentOperators
-else-row = refl
-
-pub switch-row : textAt 88 ≡ bytes (wordText Word.switch)
-unfolding textAt texts fixedWords typeKeywords otherWords qualifierWords jumpWords boolWords loneWords wordText operators symbolText unaryOperators binaryOperators assignmentOperators
-switch-row = refl
-
-pub case-row : textAt 89 ≡ bytes (wordText Word.case)
-unfolding textAt texts fixedWords typeKeywords otherWords qualifierWords jumpWords boolWords loneWords wordText operators symbolText unaryOperators binaryOperators assignmentOperators
-case-row = refl
-
-pub default-row : textAt 90 ≡ bytes (wordText Word.default)
-unfolding textAt texts fixedWords typeKeywords otherWords qualifierWords jumpWords boolWords loneWords wordText operators symbolText unaryOperators binaryOperators assignmentOperators
-default-row = refl
-
-pub while-row : textAt 91 ≡ bytes (wordText Word.while)
-unfolding textAt texts fixedWords typeKeywords otherWords qualifierWords jumpWords boolWords loneWords wordText operators symbolText unaryOperators binaryOperators assignmentOperators
-while-row = refl
-
-pub do-row : textAt 92 ≡ bytes (wordText Word.«do»)
-unfolding textAt texts fixedWords typeKeywords otherWords qualifierWords jumpWords boolWords loneWords wordText operators symbolText unaryOperators binaryOperators assignmentOperators
-do-row = refl
-
-pub for-row : textAt 93 ≡ bytes (wordText Word.for)
-unfolding textAt texts fixedWords typeKeywords otherWords qualifierWords jumpWords boolWords loneWords wordText operators symbolText unaryOperators binaryOperators assignmentOperators
-for-row = refl
 
 pub word-apart : (j k : ℕ) → j < 94 → k < 94 → textAt j ≡ textAt k → j ≡ k
 unfolding different oneOf same texts fixedWords typeKeywords otherWords qualifierWords jumpWords boolWords loneWords wordText operators symbolText unaryOperators binaryOperators assignmentOperators

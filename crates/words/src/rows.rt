@@ -1,7 +1,7 @@
 // The table's bytes, and where its sections begin. Written by tools/words.py from the word list in specs/.
 pub type Words = [u8; 3888];
 
-// The row at which each section begins (by variant from there on), the row of each lone word, and the number of rows.
+// The row at which each section begins, by variant from there on, and the number of rows. (The lone words between them are looked for, and written as they are.)
 pub const TYPES: usize = 0;
 
 pub const QUALIFIERS: usize = 51;
@@ -9,26 +9,6 @@ pub const QUALIFIERS: usize = 51;
 pub const JUMPS: usize = 78;
 
 pub const BOOLS: usize = 82;
-
-pub const PRECISION: usize = 84;
-
-pub const STRUCT: usize = 85;
-
-pub const IF: usize = 86;
-
-pub const ELSE: usize = 87;
-
-pub const SWITCH: usize = 88;
-
-pub const CASE: usize = 89;
-
-pub const DEFAULT: usize = 90;
-
-pub const WHILE: usize = 91;
-
-pub const DO: usize = 92;
-
-pub const FOR: usize = 93;
 
 pub const UNARY: usize = 94;
 
