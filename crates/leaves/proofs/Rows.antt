@@ -8,10 +8,10 @@ use lib.Dec.{eqb}
 use lib.ListN.{getD, List·getD-eq-default}
 use borrow.Author.Tests.{le-ltb, ne-eqb}
 use Rattle.words.specs.Bytes.{bytes}
-use Rattle.words.specs.Word.{Word, wordText, qualifierWords, boolWords}
+use Rattle.words.specs.Word.{Word, wordText, qualifierWords, jumpWords, boolWords}
 use Rattle.words.specs.Symbol.{Symbol, symbolText, unaryOperators, binaryOperators, assignmentOperators}
 use Rattle.words.specs.Table.{typeKeywords, textAt}
-use Rattle.words.proofs.Sections.{type-row, qualifier-row, bool-row, unary-row, binary-row, assignment-row}
+use Rattle.words.proofs.Sections.{type-row, qualifier-row, jump-row, bool-row, unary-row, binary-row, assignment-row}
 use Rattle.records.proofs.Laws.{split}
 use Rattle.settings.specs.declared.Settings.{Settings}
 use Rattle.text.specs.Token.{Token, spell}
@@ -25,6 +25,7 @@ use Rattle.pen.specs.Promise.{Ran}
 use Rattle.pen.proofs.Chain.{alike}
 use Rattle.precedence.proofs.Codes.{_above_, above-sum}
 use Rattle.leaves.specs.Qualifier.{qualifierWord}
+use Rattle.leaves.specs.Jump.{jumpWord}
 
 -- n numbers from i on, and what stands at each
 abbrev numbers : ℕ → ℕ → List ℕ
@@ -50,6 +51,11 @@ last-qualifier k =
     let h : 26 ≤ v = omega (arith, above-sum k 26) in
     rw (le-ltb v 17 (omega (arith, h)), ne-eqb v 17 (λ e. omega (arith, h, e)), ne-eqb v 18 (λ e. omega (arith, h, e)), le-ltb v 22 (omega (arith, h)), le-ltb v 25 (omega (arith, h)), ne-eqb v 25 (λ e. omega (arith, h, e))) refl
 
+last-jump : (k : ℕ) → jumpWord (k above 3) ≡ jumpWord 3
+unfolding jumpWords
+last-jump zero = refl
+last-jump (suc k) = refl
+
 module _ (v : ℕ) where
   pub unary-text : textAt (94 + min v 5) ≡ spell (Token.symbol (unary-symbol (unaryOp v)))
   unfolding spell unaryOp unaryOperators unary-symbol
@@ -74,6 +80,10 @@ module _ (v : ℕ) where
   qualifier-text =
       qualifier-row (min v 26) (omega arith) Word.precise
       ∙ ap (λ (w : Word). bytes (wordText w)) (by-variant qualifierWord qualifierWords 26 refl last-qualifier v Word.precise)
+
+  pub jump-text : textAt (78 + min v 3) ≡ spell (Token.word (jumpWord v))
+  unfolding spell jumpWords
+  jump-text = jump-row (min v 3) (omega arith) Word.return ∙ ap (λ (w : Word). bytes (wordText w)) (by-variant jumpWord jumpWords 3 refl last-jump v Word.return)
 
 -- a type keyword; behind the last there is none
 pub keyword-text : (v : ℕ) → v < 51 → textAt (0 + min v 50) ≡ spell (Token.type v)

@@ -1,3 +1,4 @@
 pub mod Shown
 pub mod Operand
 pub mod Qualifier
+pub mod Jump

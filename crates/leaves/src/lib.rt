@@ -17,6 +17,7 @@ ghost use Rattle.pen.specs.Promise.{Ran};
 ghost use Rattle.leaves.specs.Shown.{past};
 ghost use Rattle.leaves.specs.Operand.{mostUnder};
 ghost use Rattle.leaves.specs.Qualifier.{qualifierWord};
+ghost use Rattle.leaves.specs.Jump.{jumpWord};
 use pen::Pen;
 use settings::Settings;
 use words::rows;
@@ -30,6 +31,8 @@ const LAST_BINARY: u8 = 18;
 const LAST_ASSIGNMENT: u8 = 10;
 
 const LAST_QUALIFIER: u8 = 26;
+
+const LAST_JUMP: u8 = 3;
 
 const LAST_TYPE: u8 = 50;
 
@@ -119,6 +122,14 @@ pub fn show_qualifier_word(pen: Pen, t: &Words, room: &mut [u8], v: u8) -> Pen
     ensures { λ r. ⌜ ((s : Settings) → Ran s (a-word (qualifierWord v)) (now (room .entry)) pen (now (room .exit)) r) ⌝ }
 {
     pen.write_word(room, t, section_row(rows::QUALIFIERS, LAST_QUALIFIER, v))
+}
+
+// The word of a jump (kind 68), by its variant.
+pub fn show_jump_word(pen: Pen, t: &Words, room: &mut [u8], v: u8) -> Pen
+    requires { ⌜ now t ≡ Table.table ⌝ }
+    ensures { λ r. ⌜ ((s : Settings) → Ran s (a-word (jumpWord v)) (now (room .entry)) pen (now (room .exit)) r) ⌝ }
+{
+    pen.write_word(room, t, section_row(rows::JUMPS, LAST_JUMP, v))
 }
 
 // In a list: a separator before each but the first.

@@ -1,27 +1,26 @@
 -- One law a printer, and one for all that only enter a record: what the calls promise, in the order of the code, is what the printer promises. Assumes nothing.
 use mathlib.Core.Path.{_≡_, refl, sym, ap, _∙_}
 use mathlib.Core.Bool.{Bool, true, false, not, _&&_, cond}
-use mathlib.Core.List.{List, [], _∷_, _++_, append-nil, append-assoc}
+use mathlib.Core.List.{List, [], _∷_, _++_, append-assoc}
 use mathlib.Core.Option.{none, some}
 use Prim.Native.Char.{code}
 use Prim.Native.Nat.{ℕ, zero, suc, _+_, _-_, _<_, _≤_}
 use native.Mathlib.Omega.{arith}
 use lib.Dec.{leb, ltb, eqb}
-use borrow.Author.Tests.{ne-eqb}
+use borrow.Author.Tests.{not-true, le-leb, ne-eqb}
 use Rattle.words.specs.Bytes.{bytes}
-use Rattle.words.specs.Word.{Word}
+use Rattle.words.specs.Word.{Word, wordText}
 use Rattle.words.specs.Symbol.{Symbol, symbolText}
-use Rattle.words.specs.Table.{textAt}
-use Rattle.words.proofs.Sections.{struct-row}
 use Rattle.records.specs.declared.Record.{Record}
 use Rattle.records.specs.Record.{recordAt, recordCount, part, textOf}
+use Rattle.records.proofs.Laws.{if-not, record-behind}
 use Rattle.settings.specs.declared.Settings.{Settings}
 use Rattle.text.specs.Token.{Token, spell}
 use Rattle.text.specs.Command.{Command, write-binary-op, write-binary-token, write-list-separator, write-struct-field-separator, enter-block, exit-block}
 use Rattle.text.specs.Command.Command.{flush-line}
 use Rattle.text.specs.Tree.{Expr, Exprs, FunIdentifier, TypeSpecifier, TypeSpecifierNonArray, TypeSpecifiers, ArraySpecifierDimension, StructFieldSpecifier, StructFieldSpecifiers, ArrayedIdentifier, ArrayedIdentifiers, Qualification, TypeQualifierSpec, LayoutQualifier, LayoutQualifierSpec}
-use Rattle.text.specs.Text.{precedence, binary-precedence, unary-precedence, doubles, unary-op, unary-symbol, binary-symbol, assignment-symbol, a-token, a-word, a-symbol, a-space, show-identifier, show-name, bare-if, without-types, show-type-specifier-non-array, show-type-specifier, show-type-specifiers, show-struct-fields, show-struct-field, show-array-spec, show-dimension, show-arrayed-identifier, show-arrayed-identifiers, show-qualification, show-type-qualifier, show-type-qualifier-spec, show-layout-ids, show-layout-qualifier-spec, show-expr, show-exprs, show-function-identifier}
-use Rattle.text.specs.Reading.{Item, Read, Reader, first, nothing, give, counted, _and_, several, from, itemOf, typeOf, dimensionOf, fieldOf, identifierOf, specOf, layoutIdOf, unaryOp, binaryOp, assignmentOp, storageOf, expr, type, base, array, dimension, field, identifier, qualifier, spec, layout-id, callee, array-if, qualification-if}
+use Rattle.text.specs.Text.{precedence, binary-precedence, unary-precedence, doubles, unary-op, unary-symbol, binary-symbol, assignment-symbol, a-token, a-word, a-symbol, a-space, show-name, bare-if, without-types, show-type-specifier-non-array, show-type-specifier, show-type-specifiers, show-struct-fields, show-struct-field, show-array-spec, show-dimension, show-arrayed-identifier, show-arrayed-identifiers, show-qualification, show-type-qualifier, show-type-qualifier-spec, show-layout-ids, show-layout-qualifier-spec, show-expr, show-exprs, show-function-identifier}
+use Rattle.text.specs.Reading.{Item, Read, Reader, first, nothing, made, give, counted, _and_, several, from, itemOf, exprOf, typeOf, dimensionOf, fieldOf, identifierOf, specOf, layoutIdOf, unaryOp, binaryOp, assignmentOp, storageOf, expr, type, base, array, dimension, field, identifier, qualifier, spec, layout-id, callee, array-if, qualification-if}
 use Rattle.text.proofs.At.{item-at}
 use Rattle.pen.specs.declared.Pen.{Pen}
 use Rattle.pen.specs.Promise.{Wrote, Ran}
@@ -34,7 +33,7 @@ use Rattle.leaves.specs.Qualifier.{qualifierWord}
 use Rattle.leaves.proofs.Rows.{by-operator}
 use Rattle.leaves.proofs.Shown.{_thus_, nothing-shown, wrote, told, reads, opened, passed, standing, entered}
 use Rattle.show_expr.proofs.Most.{operand, below, under-sign, bracketed}
-use Rattle.show_expr.proofs.Parts.{plain, only, before-part, behind-part, between-parts, around-part, closed-parts, three-parts}
+use Rattle.show_expr.proofs.Parts.{Partway, piece, begin, _writes_, _shows_, so, plain, only}
 use Rattle.show_expr.proofs.At.{as-kind, word-spec, word-row, word-shown, called-type, called-expr}
 
 -- a token was written
@@ -45,7 +44,7 @@ pub space : {s : Settings} {room room′ : List ℕ} {p p′ : Pen} → Wrote (c
 space w = wrote (by-space w)
 
 -- brackets around what stands behind a part
-enclosed : (a b c d : List Command) → a ++ b ++ c ++ d ≡ a ++ (b ++ c ++ d)
+pub enclosed : (a b c d : List Command) → a ++ b ++ c ++ d ≡ a ++ (b ++ c ++ d)
 enclosed a b c d = ap (λ (l : List Command). l ++ d) (append-assoc a b c) ∙ append-assoc a (b ++ c) d
 
 -- the operand of a unary operator, read where the operator stood
@@ -96,6 +95,24 @@ module _ (rs ns : List ℕ) {s : Settings} where
   no-row sort show k row x {r = r} {p = p} e h d =
       none-there show (λ L. sort (first L)) x (opened rs ns sort (p .next) e ∙ h ∙ ap (λ (b : Bool). cond b row (give x) (from rs ns (p .next + 1))) (ne-eqb (r .kind) k d))
 
+  -- no record is left for an operand
+  pub none-left : (most : ℕ) {stands : Bool} {room : List ℕ} {p : Pen} → stands ≡ ltb (p .next) (recordCount rs) → not stands ≡ true → Shows (operand most) expr s rs ns room p room p
+  unfolding show-expr precedence itemOf exprOf
+  none-left most {stands = stands} {p = p} e f =
+      none-there (operand most) expr Expr.no-expr (ap (λ (x : Item). x .expr) (item-at rs ns (p .next)) ∙ rw (record-behind rs (p .next) (if-not rs (p .next) e (not-true stands f))) refl)
+      (sym (ap (λ (b : Bool). bare-if b []) (le-leb 0 most (omega arith))))
+
+  module _ {r : Record} {room₀ room₁ : List ℕ} {p₀ p₁ : Pen} (e : r ≡ recordAt rs (p₀ .next)) where
+    -- a record of kind k, read as another sort and shown as that; what the row says is `refl` where the tables are unfolded
+    pub as-sort-row : {A B : Type 0} (sub : Item → Read A) (sort : Item → Read B) (f : A → B) (show : A → List Command) (show′ : B → List Command) (k : ℕ)
+        → sort (itemOf ns (as-kind k r) (from rs ns (p₀ .next + 1))) ≡ made f (sub (itemOf ns (as-kind k r) (from rs ns (p₀ .next + 1)))) → ((x : A) → show x ≡ show′ (f x)) → r .kind ≡ k
+        → Shows show (λ L. sub (first L)) s rs ns room₀ p₀ room₁ p₁ → Shows show′ (λ L. sort (first L)) s rs ns room₀ p₀ room₁ p₁
+    as-sort-row {A = A} {B = B} sub sort f show show′ k row h i a =
+        let L = from rs ns (p₀ .next + 1) in
+        let x = sub (first (from rs ns (p₀ .next))) in
+        let as-sub = opened rs ns sub (p₀ .next) e ∙ ap (λ (n : ℕ). sub (itemOf ns (as-kind n r) L)) i in
+        reads show′ (λ L. sort (first L)) rs ns (made f x) (opened rs ns sort (p₀ .next) e ∙ ap (λ (n : ℕ). sort (itemOf ns (as-kind n r) L)) i ∙ row ∙ ap (made f) (sym as-sub)) (h (x .tree)) refl a
+
   module _ {r : Record} {room₀ room₁ : List ℕ} {p₀ p p₁ : Pen} (e : r ≡ recordAt rs (p₀ .next)) where
     -- a record of kind k, whose parts were shown; what its row says is `refl` where the sort's table is unfolded
     pub of-row : {A : Type 0} (sort : Item → Read A) (show : A → List Command) (k : ℕ) (parts : Reader A) → sort (itemOf ns (as-kind k r) (from rs ns (p₀ .next + 1))) ≡ counted (parts (from rs ns (p₀ .next + 1)))
@@ -103,66 +120,70 @@ module _ (rs ns : List ℕ) {s : Settings} where
     of-row sort show k parts row h f g a =
         entered rs ns show (λ L. sort (first L)) parts (opened rs ns sort (p₀ .next) e ∙ ap (λ (n : ℕ). sort (itemOf ns (as-kind n r) (from rs ns (p₀ .next + 1)))) f ∙ row) (standing rs k e f h) g a
 
+    -- a record of kind k, its parts shown one behind the other; what its row says is `refl` where the sort's table is unfolded, and the commands where the printer's definition is
+    pub of-parts : {A : Type 0} (sort : Item → Read A) (show : A → List Command) (k : ℕ) {f : Reader A} {x : Read A} {cs : List Command} → 0 < k → r .kind ≡ k → p ≡ past rs p₀
+        → Partway rs ns s room₀ p f x cs room₁ p₁ → sort (itemOf ns (as-kind k r) (from rs ns (p₀ .next + 1))) ≡ counted (f (from rs ns (p₀ .next + 1))) → cs ≡ show (x .tree)
+        → Shows show (λ L. sort (first L)) s rs ns room₀ p₀ room₁ p₁
+    of-parts sort show k {f = f} h i g a row q = of-row sort show k f row h i g (so show a q)
+
     -- a dimension without a size
     pub unsized : r .kind ≡ 25 → r .variant ≡ 0 → {room₂ : List ℕ} {p₂ : Pen} → p ≡ past rs p₀ → Wrote (bytes "[") room₀ p room₂ p₂ → Wrote (bytes "]") room₂ p₂ room₁ p₁
         → Shows show-dimension dimension s rs ns room₀ p₀ room₁ p₁
     unfolding show-dimension spell symbolText itemOf dimensionOf
     unsized k v f a b =
-        of-row (λ (x : Item). x .dimension) show-dimension 25 (give ArraySpecifierDimension.Unsized) (rw v refl) (omega arith) k f
-        (put (Token.symbol Symbol.left-bracket) refl a thus put (Token.symbol Symbol.right-bracket) refl b)
+        of-parts (λ (x : Item). x .dimension) show-dimension 25 (omega arith) k f
+        (begin ArraySpecifierDimension.Unsized writes put (Token.symbol Symbol.left-bracket) refl a writes put (Token.symbol Symbol.right-bracket) refl b) (rw v refl) refl
 
     pub sized : r .kind ≡ 25 → (r .variant ≡ 0 → ⊥) → {room₂ room₃ : List ℕ} {p₂ p₃ : Pen} → p ≡ past rs p₀ → Wrote (bytes "[") room₀ p room₂ p₂
         → Shows (operand 17) expr s rs ns room₂ p₂ room₃ p₃ → Wrote (bytes "]") room₃ p₃ room₁ p₁ → Shows show-dimension dimension s rs ns room₀ p₀ room₁ p₁
     unfolding show-dimension spell symbolText itemOf dimensionOf
     sized k v f a x b =
-        of-row (λ (x : Item). x .dimension) show-dimension 25 (give ArraySpecifierDimension.ExplicitlySized and expr) (rw (ne-eqb (r .variant) 0 v) refl) (omega arith) k f
-        (around-part rs ns ArraySpecifierDimension.ExplicitlySized expr _ show-expr _ show-dimension refl (put (Token.symbol Symbol.left-bracket) refl a) (plain rs ns x) (put (Token.symbol Symbol.right-bracket) refl b))
+        of-parts (λ (x : Item). x .dimension) show-dimension 25 (omega arith) k f
+        (begin ArraySpecifierDimension.ExplicitlySized writes put (Token.symbol Symbol.left-bracket) refl a shows piece show-expr expr (plain rs ns x) writes put (Token.symbol Symbol.right-bracket) refl b)
+        (rw (ne-eqb (r .variant) 0 v) refl) refl
 
     -- a layout's ids
     pub id : r .kind ≡ 30 → r .variant ≡ 0 → p ≡ past rs p₀ → Wrote (part ns (r .a) (r .b)) room₀ p room₁ p₁ → Shows show-layout-qualifier-spec layout-id s rs ns room₀ p₀ room₁ p₁
     unfolding show-layout-qualifier-spec spell itemOf layoutIdOf
     id k v f w =
-        of-row (λ (x : Item). x .layout-id) show-layout-qualifier-spec 30 (give (LayoutQualifierSpec.Ident (textOf ns r))) (rw v refl) (omega arith) k f
-        (put (Token.name (part ns (r .a) (r .b))) refl w)
+        of-parts (λ (x : Item). x .layout-id) show-layout-qualifier-spec 30 (omega arith) k f (begin (LayoutQualifierSpec.Ident (textOf ns r)) writes put (Token.name (textOf ns r)) refl w) (rw v refl) refl
 
     pub id-is : r .kind ≡ 30 → r .variant ≡ 1 → {room₂ room₃ : List ℕ} {p₂ p₃ : Pen} → p ≡ past rs p₀ → Wrote (part ns (r .a) (r .b)) room₀ p room₂ p₂
         → Ran s (write-binary-token (Token.name (bytes "="))) room₂ p₂ room₃ p₃ → Shows (operand 17) expr s rs ns room₃ p₃ room₁ p₁ → Shows show-layout-qualifier-spec layout-id s rs ns room₀ p₀ room₁ p₁
     unfolding show-layout-qualifier-spec spell symbolText itemOf layoutIdOf
     id-is k v f w o x =
-        of-row (λ (x : Item). x .layout-id) show-layout-qualifier-spec 30 (give (LayoutQualifierSpec.IdentIs (textOf ns r)) and expr) (rw v refl) (omega arith) k f
-        (before-part rs ns (LayoutQualifierSpec.IdentIs (textOf ns r)) expr show-expr show-layout-qualifier-spec _ refl (put (Token.name (part ns (r .a) (r .b))) refl w thus wrote (by-operator Symbol.equal refl o)) (plain rs ns x))
+        of-parts (λ (x : Item). x .layout-id) show-layout-qualifier-spec 30 (omega arith) k f
+        (begin (LayoutQualifierSpec.IdentIs (textOf ns r)) writes put (Token.name (textOf ns r)) refl w writes wrote (by-operator Symbol.equal refl o) shows piece show-expr expr (plain rs ns x)) (rw v refl) refl
 
     pub shared : r .kind ≡ 30 → (r .variant ≡ 0 → ⊥) → (r .variant ≡ 1 → ⊥) → p ≡ past rs p₀ → Ran s (a-word (qualifierWord 9)) room₀ p room₁ p₁
         → Shows show-layout-qualifier-spec layout-id s rs ns room₀ p₀ room₁ p₁
     unfolding show-layout-qualifier-spec qualifierWord storageOf itemOf layoutIdOf
     shared k v u f w =
-        of-row (λ (x : Item). x .layout-id) show-layout-qualifier-spec 30 (give LayoutQualifierSpec.Shared) (rw (ne-eqb (r .variant) 0 v, ne-eqb (r .variant) 1 u) refl) (omega arith) k f (wrote w)
+        of-parts (λ (x : Item). x .layout-id) show-layout-qualifier-spec 30 (omega arith) k f (begin LayoutQualifierSpec.Shared writes wrote w) (rw (ne-eqb (r .variant) 0 v, ne-eqb (r .variant) 1 u) refl) refl
 
     -- one kind a sort
     pub ty : r .kind ≡ 20 → {room₂ : List ℕ} {p₂ : Pen} → p ≡ past rs p₀ → Shows show-type-specifier-non-array base s rs ns room₀ p room₂ p₂
         → Shows show-array-spec (array-if (eqb (r .variant) 1)) s rs ns room₂ p₂ room₁ p₁ → Shows show-type-specifier type s rs ns room₀ p₀ room₁ p₁
     unfolding show-type-specifier itemOf typeOf
     ty k f a b =
-        of-row (λ (x : Item). x .type) show-type-specifier 20 (give TypeSpecifier.type and base and array-if (eqb (r .variant) 1)) refl (omega arith) k f
-        (between-parts rs ns TypeSpecifier.type base (array-if (eqb (r .variant) 1)) show-type-specifier-non-array [] show-array-spec show-type-specifier
-        (λ x y. ap (λ (l : List Command). l ++ show-array-spec y) (append-nil (show-type-specifier-non-array x))) a nothing-shown b)
+        of-parts (λ (x : Item). x .type) show-type-specifier 20 (omega arith) k f
+        (begin TypeSpecifier.type shows piece show-type-specifier-non-array base a shows piece show-array-spec (array-if (eqb (r .variant) 1)) b) refl refl
 
     pub ident : r .kind ≡ 27 → {room₂ : List ℕ} {p₂ : Pen} → p ≡ past rs p₀ → Wrote (part ns (r .a) (r .b)) room₀ p room₂ p₂
         → Shows show-array-spec (array-if (eqb (r .variant) 1)) s rs ns room₂ p₂ room₁ p₁ → Shows show-arrayed-identifier identifier s rs ns room₀ p₀ room₁ p₁
     unfolding show-arrayed-identifier spell itemOf identifierOf
     ident k f w b =
-        of-row (λ (x : Item). x .identifier) show-arrayed-identifier 27 (give (ArrayedIdentifier.arrayed (textOf ns r)) and array-if (eqb (r .variant) 1)) refl (omega arith) k f
-        (before-part rs ns (ArrayedIdentifier.arrayed (textOf ns r)) (array-if (eqb (r .variant) 1)) show-array-spec show-arrayed-identifier _ refl (put (Token.name (part ns (r .a) (r .b))) refl w) b)
+        of-parts (λ (x : Item). x .identifier) show-arrayed-identifier 27 (omega arith) k f
+        (begin (ArrayedIdentifier.arrayed (textOf ns r)) writes put (Token.name (textOf ns r)) refl w shows piece show-array-spec (array-if (eqb (r .variant) 1)) b) refl refl
 
     pub field-of : r .kind ≡ 26 → {room₂ room₃ room₄ : List ℕ} {p₂ p₃ p₄ : Pen} → p ≡ past rs p₀ → Shows show-qualification (qualification-if (eqb (r .variant) 1)) s rs ns room₀ p room₂ p₂
         → Shows show-type-specifier type s rs ns room₂ p₂ room₃ p₃ → Wrote (bytes " ") room₃ p₃ room₄ p₄
         → Shows (λ is. show-arrayed-identifiers is true) (several (r .count) identifier ArrayedIdentifiers.no-identifiers ArrayedIdentifiers.identifiers) s rs ns room₄ p₄ room₁ p₁ → Shows show-struct-field field s rs ns room₀ p₀ room₁ p₁
     unfolding show-struct-field itemOf fieldOf
     field-of k f a b w c =
-        of-row (λ (x : Item). x .field) show-struct-field 26 (give StructFieldSpecifier.field and qualification-if (eqb (r .variant) 1) and type and several (r .count) identifier ArrayedIdentifiers.no-identifiers ArrayedIdentifiers.identifiers) refl (omega arith) k f
-        (three-parts rs ns StructFieldSpecifier.field (qualification-if (eqb (r .variant) 1)) type (several (r .count) identifier ArrayedIdentifiers.no-identifiers ArrayedIdentifiers.identifiers)
-        show-qualification [] show-type-specifier a-space (λ is. show-arrayed-identifiers is true) show-struct-field
-        (λ x y z. ap (λ (l : List Command). l ++ show-type-specifier y ++ a-space ++ show-arrayed-identifiers z true) (append-nil (show-qualification x))) a nothing-shown b (space w) c)
+        of-parts (λ (x : Item). x .field) show-struct-field 26 (omega arith) k f
+        (begin StructFieldSpecifier.field shows piece show-qualification (qualification-if (eqb (r .variant) 1)) a shows piece show-type-specifier type b writes space w
+        shows piece (λ is. show-arrayed-identifiers is true) (several (r .count) identifier ArrayedIdentifiers.no-identifiers ArrayedIdentifiers.identifiers) c) refl refl
 
     pub subroutine : r .kind ≡ 29 → r .variant ≡ 17 → p ≡ past rs p₀
         → Shows show-type-qualifier-spec (give TypeQualifierSpec.Subroutine and several (r .count) type TypeSpecifiers.no-types TypeSpecifiers.types) s rs ns room₀ p room₁ p₁
@@ -204,72 +225,88 @@ module _ (rs ns : List ℕ) {s : Settings} where
         → Shows (operand most) expr s rs ns room₂ p₂ room₁ p₁ → Shows show-expr (give (Expr.Unary (unaryOp v)) and expr) s rs ns room₀ p₀ room₁ p₁
     unfolding show-expr
     unary-parts v {most = most} {p₂ = p₂} o m a =
-        before-part rs ns (Expr.Unary (unaryOp v)) expr (operand most) show-expr _
-        (ap (λ (b : Bool). a-symbol (unary-symbol (unaryOp v)) ++ bare-if b (show-expr (expr (from rs ns (p₂ .next)) .tree))) (sign-at rs ns (p₀ .next) (p₂ .next) v most m (omega (arith, wrote o .next)))) (wrote o) a
+        let e = expr (from rs ns (p₂ .next)) .tree in
+        so show-expr (begin (Expr.Unary (unaryOp v)) writes wrote o shows piece (operand most) expr a)
+        (ap (λ (b : Bool). a-symbol (unary-symbol (unaryOp v)) ++ bare-if b (show-expr e)) (sign-at rs ns (p₀ .next) (p₂ .next) v most m (omega (arith, wrote o .next))))
 
     module _ {room₂ : List ℕ} {p₂ : Pen} where
       pub post-parts : (down : Bool) → Shows (operand 1) expr s rs ns room₀ p₀ room₂ p₂ → Ran s (a-symbol (cond down Symbol.dec-op Symbol.inc-op)) room₂ p₂ room₁ p₁
           → Shows show-expr (give (cond down Expr.PostDec Expr.PostInc) and expr) s rs ns room₀ p₀ room₁ p₁
       unfolding show-expr
       post-parts true a o =
-          behind-part rs ns Expr.PostDec expr (operand 1) show-expr _ (λ x. ap (λ (b : Bool). bare-if b (show-expr x) ++ a-symbol Symbol.dec-op) (below (precedence x) 2 (omega arith))) a (wrote o)
+          let e = expr (from rs ns (p₀ .next)) .tree in
+          so show-expr (begin Expr.PostDec shows piece (operand 1) expr a writes wrote o) (ap (λ (b : Bool). bare-if b (show-expr e) ++ a-symbol Symbol.dec-op) (below (precedence e) 2 (omega arith)))
       post-parts false a o =
-          behind-part rs ns Expr.PostInc expr (operand 1) show-expr _ (λ x. ap (λ (b : Bool). bare-if b (show-expr x) ++ a-symbol Symbol.inc-op) (below (precedence x) 2 (omega arith))) a (wrote o)
+          let e = expr (from rs ns (p₀ .next)) .tree in
+          so show-expr (begin Expr.PostInc shows piece (operand 1) expr a writes wrote o) (ap (λ (b : Bool). bare-if b (show-expr e) ++ a-symbol Symbol.inc-op) (below (precedence e) 2 (omega arith)))
 
       pub comma-parts : {room₃ : List ℕ} {p₃ : Pen} → Shows (operand 17) expr s rs ns room₀ p₀ room₂ p₂ → Ran s write-list-separator room₂ p₂ room₃ p₃ → Shows (operand 16) expr s rs ns room₃ p₃ room₁ p₁
           → Shows show-expr (give Expr.Comma and expr and expr) s rs ns room₀ p₀ room₁ p₁
       unfolding show-expr
-      comma-parts a o b =
-          between-parts rs ns Expr.Comma expr expr (operand 17) _ (operand 16) show-expr
-          (λ x y. ap (λ (c : Bool). operand 17 x ++ write-list-separator ++ bare-if c (show-expr y)) (below (precedence y) 17 (omega arith))) a (wrote o) b
+      comma-parts {p₃ = p₃} a o b =
+          let x = expr (from rs ns (p₀ .next)) .tree in
+          let y = expr (from rs ns (p₃ .next)) .tree in
+          so show-expr (begin Expr.Comma shows piece (operand 17) expr a writes wrote o shows piece (operand 16) expr b)
+          (ap (λ (c : Bool). operand 17 x ++ write-list-separator ++ bare-if c (show-expr y)) (below (precedence y) 17 (omega arith)))
 
       pub binary-parts : (v : ℕ) {q : ℕ} {room₃ : List ℕ} {p₃ : Pen} → (q ≡ binary-precedence (binaryOp v)) × (1 ≤ q) × (q ≤ 14) → Shows (operand q) expr s rs ns room₀ p₀ room₂ p₂
           → Ran s (write-binary-op (binary-symbol (binaryOp v))) room₂ p₂ room₃ p₃ → Shows (operand (q - 1)) expr s rs ns room₃ p₃ room₁ p₁
           → Shows show-expr (give (Expr.Binary (binaryOp v)) and expr and expr) s rs ns room₀ p₀ room₁ p₁
       unfolding show-expr
-      binary-parts v {q = q} h a o b =
-          between-parts rs ns (Expr.Binary (binaryOp v)) expr expr (operand q) _ (operand (q - 1)) show-expr
-          (λ x y. ap (λ (c : Bool). operand q x ++ write-binary-op (binary-symbol (binaryOp v)) ++ bare-if c (show-expr y)) (below (precedence y) q (h .1))
-          ∙ ap (λ (n : ℕ). operand n x ++ write-binary-op (binary-symbol (binaryOp v)) ++ bare-if (ltb (precedence y) n) (show-expr y)) (h .0)) a (wrote o) b
+      binary-parts v {q = q} {p₃ = p₃} h a o b =
+          let x = expr (from rs ns (p₀ .next)) .tree in
+          let y = expr (from rs ns (p₃ .next)) .tree in
+          so show-expr (begin (Expr.Binary (binaryOp v)) shows piece (operand q) expr a writes wrote o shows piece (operand (q - 1)) expr b)
+          (ap (λ (c : Bool). operand q x ++ write-binary-op (binary-symbol (binaryOp v)) ++ bare-if c (show-expr y)) (below (precedence y) q (h .1))
+          ∙ ap (λ (n : ℕ). operand n x ++ write-binary-op (binary-symbol (binaryOp v)) ++ bare-if (ltb (precedence y) n) (show-expr y)) (h .0))
 
       pub assign-parts : (v : ℕ) {room₃ : List ℕ} {p₃ : Pen} → Shows (operand 15) expr s rs ns room₀ p₀ room₂ p₂
           → Ran s (write-binary-op (assignment-symbol (assignmentOp v))) room₂ p₂ room₃ p₃ → Shows (operand 16) expr s rs ns room₃ p₃ room₁ p₁
           → Shows show-expr (give (Expr.Assignment (assignmentOp v)) and expr and expr) s rs ns room₀ p₀ room₁ p₁
       unfolding show-expr
-      assign-parts v a o b =
-          between-parts rs ns (Expr.Assignment (assignmentOp v)) expr expr (operand 15) _ (operand 16) show-expr
-          (λ x y. ap (λ (c : Bool). bare-if c (show-expr x) ++ write-binary-op (assignment-symbol (assignmentOp v)) ++ operand 16 y) (below (precedence x) 16 (omega arith))) a (wrote o) b
+      assign-parts v {p₃ = p₃} a o b =
+          let x = expr (from rs ns (p₀ .next)) .tree in
+          let y = expr (from rs ns (p₃ .next)) .tree in
+          so show-expr (begin (Expr.Assignment (assignmentOp v)) shows piece (operand 15) expr a writes wrote o shows piece (operand 16) expr b)
+          (ap (λ (c : Bool). bare-if c (show-expr x) ++ write-binary-op (assignment-symbol (assignmentOp v)) ++ operand 16 y) (below (precedence x) 16 (omega arith)))
 
       pub index-parts : {room₃ room₄ : List ℕ} {p₃ p₄ : Pen} → Shows (operand 2) expr s rs ns room₀ p₀ room₂ p₂ → Wrote (bytes "[") room₂ p₂ room₃ p₃
           → Shows (operand 17) expr s rs ns room₃ p₃ room₄ p₄ → Wrote (bytes "]") room₄ p₄ room₁ p₁ → Shows show-expr (give Expr.Bracket and expr and expr) s rs ns room₀ p₀ room₁ p₁
       unfolding show-expr spell symbolText
-      index-parts a o b c =
-          closed-parts rs ns Expr.Bracket expr expr (operand 2) _ show-expr _ show-expr
-          (λ x y. enclosed (operand 2 x) (a-symbol Symbol.left-bracket) (show-expr y) (a-symbol Symbol.right-bracket)) a (put (Token.symbol Symbol.left-bracket) refl o) (plain rs ns b) (put (Token.symbol Symbol.right-bracket) refl c)
+      index-parts {p₃ = p₃} a o b c =
+          so show-expr
+          (begin Expr.Bracket shows piece (operand 2) expr a writes put (Token.symbol Symbol.left-bracket) refl o shows piece show-expr expr (plain rs ns b) writes put (Token.symbol Symbol.right-bracket) refl c)
+          (enclosed (operand 2 (expr (from rs ns (p₀ .next)) .tree)) (a-symbol Symbol.left-bracket) (show-expr (expr (from rs ns (p₃ .next)) .tree)) (a-symbol Symbol.right-bracket))
 
       pub dot-parts : (a b : ℕ) {room₃ : List ℕ} {p₃ : Pen} → Shows (operand 2) expr s rs ns room₀ p₀ room₂ p₂ → Wrote (bytes ".") room₂ p₂ room₃ p₃ → Wrote (part ns a b) room₃ p₃ room₁ p₁
           → Shows show-expr (give (Expr.Dot (part ns a b)) and expr) s rs ns room₀ p₀ room₁ p₁
       unfolding show-expr spell symbolText
       dot-parts a b x o w =
-          behind-part rs ns (Expr.Dot (part ns a b)) expr (operand 2) show-expr _
-          (λ e. sym (append-assoc (operand 2 e) (a-symbol Symbol.dot) (show-identifier (part ns a b)))) x (put (Token.symbol Symbol.dot) refl o thus put (Token.name (part ns a b)) refl w)
+          so show-expr
+          (begin (Expr.Dot (part ns a b)) shows piece (operand 2) expr x writes put (Token.symbol Symbol.dot) refl o writes put (Token.name (part ns a b)) refl w) refl
 
       pub ternary-parts : {room₃ room₄ room₅ : List ℕ} {p₃ p₄ p₅ : Pen} → Shows (operand 14) expr s rs ns room₀ p₀ room₂ p₂ → Ran s (write-binary-token (Token.name (bytes "?"))) room₂ p₂ room₃ p₃
           → Shows (operand 17) expr s rs ns room₃ p₃ room₄ p₄ → Ran s (write-binary-token (Token.name (bytes ":"))) room₄ p₄ room₅ p₅ → Shows (operand 15) expr s rs ns room₅ p₅ room₁ p₁
           → Shows show-expr (give Expr.Ternary and expr and expr and expr) s rs ns room₀ p₀ room₁ p₁
       unfolding show-expr spell symbolText
-      ternary-parts a o b c d =
-          three-parts rs ns Expr.Ternary expr expr expr (operand 14) _ show-expr _ (operand 15) show-expr
-          (λ x y z. ap (λ (e : Bool). bare-if e (show-expr x) ++ write-binary-op Symbol.question ++ show-expr y ++ write-binary-op Symbol.colon ++ operand 15 z) (below (precedence x) 15 (omega arith)))
-          a (wrote (by-operator Symbol.question refl o)) (plain rs ns b) (wrote (by-operator Symbol.colon refl c)) d
+      ternary-parts {p₃ = p₃} {p₅ = p₅} a o b c d =
+          let x = expr (from rs ns (p₀ .next)) .tree in
+          let y = expr (from rs ns (p₃ .next)) .tree in
+          let z = expr (from rs ns (p₅ .next)) .tree in
+          so show-expr
+          (begin Expr.Ternary shows piece (operand 14) expr a writes wrote (by-operator Symbol.question refl o) shows piece show-expr expr (plain rs ns b) writes wrote (by-operator Symbol.colon refl c)
+          shows piece (operand 15) expr d)
+          (ap (λ (e : Bool). bare-if e (show-expr x) ++ write-binary-op Symbol.question ++ show-expr y ++ write-binary-op Symbol.colon ++ operand 15 z) (below (precedence x) 15 (omega arith)))
 
       pub call-parts : (n : ℕ) {room₃ room₄ : List ℕ} {p₃ p₄ : Pen} → Shows show-function-identifier callee s rs ns room₀ p₀ room₂ p₂ → Wrote (bytes "(") room₂ p₂ room₃ p₃
           → Shows (λ es. show-exprs es true) (several n expr Exprs.no-exprs Exprs.exprs) s rs ns room₃ p₃ room₄ p₄ → Wrote (bytes ")") room₄ p₄ room₁ p₁
           → Shows show-expr (give Expr.FunCall and callee and several n expr Exprs.no-exprs Exprs.exprs) s rs ns room₀ p₀ room₁ p₁
       unfolding show-expr spell symbolText
-      call-parts n a o b c =
-          closed-parts rs ns Expr.FunCall callee (several n expr Exprs.no-exprs Exprs.exprs) show-function-identifier _ (λ es. show-exprs es true) _ show-expr
-          (λ x y. enclosed (show-function-identifier x) (a-symbol Symbol.left-paren) (show-exprs y true) (a-symbol Symbol.right-paren)) a (put (Token.symbol Symbol.left-paren) refl o) b (put (Token.symbol Symbol.right-paren) refl c)
+      call-parts n {p₃ = p₃} a o b c =
+          so show-expr
+          (begin Expr.FunCall shows piece show-function-identifier callee a writes put (Token.symbol Symbol.left-paren) refl o
+          shows piece (λ es. show-exprs es true) (several n expr Exprs.no-exprs Exprs.exprs) b writes put (Token.symbol Symbol.right-paren) refl c)
+          (enclosed (show-function-identifier (callee (from rs ns (p₀ .next)) .tree)) (a-symbol Symbol.left-paren) (show-exprs (several n expr Exprs.no-exprs Exprs.exprs (from rs ns (p₃ .next)) .tree) true) (a-symbol Symbol.right-paren))
 
       -- a separator or a space before an item
       pub item-behind : {A : Type 0} (show : A → List Command) (q : Reader A) {cs : List Command} → Ran s cs room₀ p₀ room₂ p₂ → Shows show q s rs ns room₂ p₂ room₁ p₁
@@ -281,7 +318,7 @@ module _ (rs ns : List ℕ) {s : Settings} where
       pub qualif-on : {on : Bool} → on ≡ true → Shows (λ q. show-type-qualifier q true) qualifier s rs ns room₀ p₀ room₂ p₂ → Wrote (bytes " ") room₂ p₂ room₁ p₁
           → Shows show-qualification (qualification-if on) s rs ns room₀ p₀ room₁ p₁
       unfolding show-qualification
-      qualif-on h a w = rw h (behind-part rs ns Qualification.qualified qualifier (λ q. show-type-qualifier q true) show-qualification _ (λ x. refl) a (space w))
+      qualif-on h a w = rw h (so show-qualification (begin Qualification.qualified shows piece (λ q. show-type-qualifier q true) qualifier a writes space w) refl)
 
       module _ {room₃ : List ℕ} {p₃ : Pen} where
         pub field-item : Ran s (flush-line ∷ []) room₀ p₀ room₂ p₂ → Shows show-struct-field field s rs ns room₂ p₂ room₃ p₃ → Ran s write-struct-field-separator room₃ p₃ room₁ p₁
@@ -305,8 +342,10 @@ module _ (rs ns : List ℕ) {s : Settings} where
         unfolding show-type-qualifier-spec qualifierWord spell symbolText
         layout-parts n w o a c =
             let is = several n layout-id LayoutQualifier.no-ids LayoutQualifier.ids (from rs ns (p₃ .next)) .tree in
-            around-part rs ns TypeQualifierSpec.Layout (several n layout-id LayoutQualifier.no-ids LayoutQualifier.ids) _ (λ is. show-layout-ids is true) _ show-type-qualifier-spec
-            (enclosed (a-word Word.layout) (a-symbol Symbol.left-paren) (show-layout-ids is true) (a-symbol Symbol.right-paren)) (wrote w thus put (Token.symbol Symbol.left-paren) refl o) a (put (Token.symbol Symbol.right-paren) refl c)
+            so show-type-qualifier-spec
+            (begin TypeQualifierSpec.Layout writes wrote w writes put (Token.symbol Symbol.left-paren) refl o shows piece (λ is. show-layout-ids is true) (several n layout-id LayoutQualifier.no-ids LayoutQualifier.ids) a
+            writes put (Token.symbol Symbol.right-paren) refl c)
+            (enclosed (a-word Word.layout) (a-symbol Symbol.left-paren) (show-layout-ids is true) (a-symbol Symbol.right-paren))
 
         pub subr-parts : (n : ℕ) → 0 < n → {room₄ : List ℕ} {p₄ : Pen} → Ran s (a-word (qualifierWord 17)) room₀ p₀ room₂ p₂ → Wrote (bytes "(") room₂ p₂ room₃ p₃
             → Shows (λ ts. show-type-specifiers ts true) (several n type TypeSpecifiers.no-types TypeSpecifiers.types) s rs ns room₃ p₃ room₄ p₄ → Wrote (bytes ")") room₄ p₄ room₁ p₁
@@ -314,19 +353,21 @@ module _ (rs ns : List ℕ) {s : Settings} where
         unfolding show-type-qualifier-spec qualifierWord spell symbolText
         subr-parts n h w o a c =
             let ts = several n type TypeSpecifiers.no-types TypeSpecifiers.types (from rs ns (p₃ .next)) .tree in
-            around-part rs ns TypeQualifierSpec.Subroutine (several n type TypeSpecifiers.no-types TypeSpecifiers.types) _ (λ ts. show-type-specifiers ts true) _ show-type-qualifier-spec
+            so show-type-qualifier-spec
+            (begin TypeQualifierSpec.Subroutine writes wrote w writes put (Token.symbol Symbol.left-paren) refl o shows piece (λ ts. show-type-specifiers ts true) (several n type TypeSpecifiers.no-types TypeSpecifiers.types) a
+            writes put (Token.symbol Symbol.right-paren) refl c)
             (enclosed (a-word Word.subroutine) (a-symbol Symbol.left-paren) (show-type-specifiers ts true) (a-symbol Symbol.right-paren)
             ∙ ap (λ (b : Bool). a-word Word.subroutine ++ cond b [] (a-symbol Symbol.left-paren ++ show-type-specifiers ts true ++ a-symbol Symbol.right-paren)) (sym (some-types n h (from rs ns (p₃ .next)))))
-            (wrote w thus put (Token.symbol Symbol.left-paren) refl o) a (put (Token.symbol Symbol.right-paren) refl c)
 
-        pub strukt-parts : (r : Record) {room₄ room₅ room₆ : List ℕ} {p₄ p₅ p₆ : Pen} → Wrote (textAt 85) room₀ p₀ room₂ p₂ → Wrote (bytes " ") room₂ p₂ room₃ p₃
+        pub strukt-parts : (r : Record) {room₄ room₅ room₆ : List ℕ} {p₄ p₅ p₆ : Pen} → Wrote (bytes "struct") room₀ p₀ room₂ p₂ → Wrote (bytes " ") room₂ p₂ room₃ p₃
             → Ran s (show-name (cond (eqb (r .variant) 1) (some (part ns (r .a) (r .b))) none)) room₃ p₃ room₄ p₄ → Ran s enter-block room₄ p₄ room₅ p₅
             → Shows show-struct-fields (several (r .count) field StructFieldSpecifiers.no-fields StructFieldSpecifiers.fields) s rs ns room₅ p₅ room₆ p₆ → Ran s exit-block room₆ p₆ room₁ p₁
             → Shows show-type-specifier-non-array (struct-parts ns r) s rs ns room₀ p₀ room₁ p₁
-        unfolding show-type-specifier-non-array spell
+        unfolding show-type-specifier-non-array spell wordText
         strukt-parts r w b n o a c =
-            around-part rs ns (TypeSpecifierNonArray.Struct (cond (eqb (r .variant) 1) (some (part ns (r .a) (r .b))) none)) (several (r .count) field StructFieldSpecifiers.no-fields StructFieldSpecifiers.fields) _ show-struct-fields _
-            show-type-specifier-non-array refl (put (Token.word Word.struct) struct-row w thus space b thus wrote n thus wrote o) a (wrote c)
+            so show-type-specifier-non-array
+            (begin (TypeSpecifierNonArray.Struct (cond (eqb (r .variant) 1) (some (part ns (r .a) (r .b))) none)) writes put (Token.word Word.struct) refl w writes space b writes wrote n writes wrote o
+            shows piece show-struct-fields (several (r .count) field StructFieldSpecifiers.no-fields StructFieldSpecifiers.fields) a writes wrote c) refl
 
     pub no-types : (n : ℕ) → n ≡ 0 → Ran s (a-word (qualifierWord 17)) room₀ p₀ room₁ p₁
         → Shows show-type-qualifier-spec (give TypeQualifierSpec.Subroutine and several n type TypeSpecifiers.no-types TypeSpecifiers.types) s rs ns room₀ p₀ room₁ p₁

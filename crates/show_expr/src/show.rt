@@ -17,7 +17,6 @@ ghost use Rattle.leaves.specs.Shown.{Shows};
 use pen::Pen;
 use records::Record;
 use settings::Settings;
-use words::rows;
 use words::rows::Words;
 
 // What an operand may bind at most and be bare: anything, or one less than a number of HasPrecedence where 000 asks for less.
@@ -100,7 +99,7 @@ fn strukt(
     requires { ⌜ now t ≡ Table.table ⌝ }
     ensures { λ r. ⌜ Shows show-type-specifier-non-array (give (TypeSpecifierNonArray.Struct (cond (eqb (top .variant) 1) (some (part (now (names .entry)) (top .a) (top .b))) none)) and several (top .count) Reading.field StructFieldSpecifiers.no-fields StructFieldSpecifiers.fields) s (now (records .entry)) (now (names .entry)) (now (room .entry)) pen (now (room .exit)) r ⌝ }
 {
-    let word = pen.write_word(room, t, rows::STRUCT);
+    let word = pen.write_str(room, b"struct");
     let spaced = word.write_char(room, b' ');
     let named = leaves::show_name(spaced, room, names, top.variant == 1, top.a, top.b);
     let opened = named.enter_block(room, s);
@@ -360,7 +359,8 @@ fn id(s: Settings, t: &Words, records: &[u8], names: &[u8], room: &mut [u8], pen
     leaves::show_qualifier_word(inside, t, room, SHARED)
 }
 
-// 000 show_expr as an operand, which is bare if it binds at `most` or more strongly, and else in parentheses.
+// 000 show_expr as an operand, which is bare if it binds at `most` or more strongly, and else in parentheses. (Where no record is left `bare` shows nothing, too; with the way
+// out here the compiler leaves `expr` out of its callers and puts `bare` into it, which is much faster: docs/SPEED.md.)
 pub fn expr(
     s: Settings,
     t: &Words,
@@ -373,6 +373,9 @@ pub fn expr(
     requires { ⌜ now t ≡ Table.table ⌝ }
     ensures { λ r. ⌜ Shows (λ e. bare-if (leb (precedence e) most) (show-expr e)) Reading.expr s (now (records .entry)) (now (names .entry)) (now (room .entry)) pen (now (room .exit)) r ⌝ }
 {
+    if !records::stands(records, pen.next) {
+        return pen;
+    }
     let kind = records::kind_at(records, pen.next);
     let closed = most < precedence::of_expr(kind, records::variant_at(records, pen.next));
     let opened = leaves::open_if(pen, room, closed);

@@ -319,6 +319,8 @@ pub +array+assign+bare+base+binary+call+callee+comma+dim+dims+dot+expr+field+fie
     (λ t. expr-lts.spec (Expr.calls t)
     (expr-at t)
     expr.Post
+    (Expr.stands-requires t)
+    (Expr.returns t)
     (Expr.kind-at-requires t)
     (Expr.variant-at-requires t)
     (Expr.of-expr-requires t)
@@ -326,7 +328,7 @@ pub +array+assign+bare+base+binary+call+callee+comma+dim+dims+dot+expr+field+fie
     (Expr.bare-requires t)
     (Expr.close-if-requires t)
     (Expr.same-length t)
-    (Expr.returns t))
+    (Expr.returns-2 t))
     (λ t. field-lts.spec (Field.calls t)
     (field-at t)
     field.Post
@@ -468,7 +470,8 @@ pub +array+assign+bare+base+binary+call+callee+comma+dim+dims+dot+expr+field+fie
     (λ t. strukt-lts.spec (Strukt.calls t)
     (strukt-at t)
     strukt.Post
-    (Strukt.write-word-requires t)
+    (Strukt.slice-aggregate-write-str t)
+    (Strukt.write-str-requires t)
     (Strukt.write-char-requires t)
     (Strukt.show-name-requires t)
     (Strukt.enter-block-requires t)

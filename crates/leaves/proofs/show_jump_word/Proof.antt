@@ -1,0 +1,26 @@
+-- `leaves::show_jump_word` meets its contract: the row holds the text. Assumes nothing.
+use mathlib.Core.Path.{_∙_, ap}
+use Rattle.words.specs.Table.{textAt}
+use Rattle.text.specs.Token.{Token}
+use Rattle.leaves.specs.Jump.{jumpWord}
+use Rattle.pen.proofs.Chain.{by-token}
+use Rattle.leaves.proofs.Rows.{jump-text}
+use borrow.Author.Needs.{needs}
+use Rattle.leaves.proofs.show_jump_word.Statement.{statement}
+use Rattle.leaves.proofs.show_jump_word.Tie as tie
+
+section-row-requires : tie.Need-section-row-requires
+section-row-requires c κs = search needs
+
+write-word-requires : tie.Need-write-word-requires
+write-word-requires c κs = search needs
+
+same-length : tie.Need-same-length
+same-length c = search needs
+
+returns : tie.Need-returns
+returns c = λ s. by-token (Token.word (jumpWord (c .before .before .before .before .before .before .args .v))) (ap textAt (c .before .before .before .section-row .ensures) ∙ jump-text _) (c .before .before .write-word .ensures)
+
+pub show-jump-word-spec : {M : Type 1} → statement M
+show-jump-word-spec =
+    tie.close (tie.spec section-row-requires write-word-requires same-length returns)
