@@ -1,6 +1,6 @@
 pub mod Measured
 pub mod Outcome
-pub mod Expr
+pub mod Accepted
 pub mod Question
 pub mod Rows
 pub mod Unique

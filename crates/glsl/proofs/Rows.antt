@@ -1,10 +1,11 @@
--- The rows of document 01 that are marked P, of the calls themselves, in TIGHT and in OPEN, and the answers to the joined question: one table, one theorem,
--- by computation from the bytes of settings, records and names. (The row of a unit comes with the units.) Assumes nothing.
+-- The rows of document 01, those marked P and its two other units, of the calls themselves, in TIGHT and in OPEN, and the answers to the joined question: one table, one theorem,
+-- by computation from the bytes of settings, records and names. Assumes nothing.
 use Prim.Native.Nat.{ℕ, _-_}
 use mathlib.Core.Path.{_≡_, refl}
 use mathlib.Core.Bool.{Bool, cond}
-use mathlib.Core.List.{List, [], _∷_, map}
+use mathlib.Core.List.{List, [], map}
 use mathlib.Core.Option.{Option, none, some}
+use lib.Dec.{eqb}
 use lib.ListN.{length, replicate}
 use Rattle.accept.specs.declared.Refusal.the-variants.{RoomTooSmall}
 use Rattle.accepted.proofs.Case.{computing as checking}
@@ -15,17 +16,15 @@ use Rattle.glsl.specs.declared.Printed.{Printed}
 use Rattle.glsl.specs.declared.Printed.the-variants.{Text, Refused}
 use Rattle.glsl.specs.declared.Whether.{Whether}
 use Rattle.glsl.specs.declared.Whether.the-variants.{No, Yes}
-use Rattle.glsl.specs.Printed.{fitted, outcome, roomAfter, front, exprOutcome}
+use Rattle.glsl.specs.declared.Root.{Root}
+use Rattle.glsl.specs.declared.Root.the-variants.{Unit, Expr}
+use Rattle.glsl.specs.Root.{rootText}
+use Rattle.glsl.specs.Printed.{fitted, outcome, roomAfter, front, printOutcome}
 use Rattle.glsl.specs.Joined.{judged, joinedOutcome}
-use Rattle.text.specs.Whole.{exprText}
 
 -- text's table has the rows, with their texts as they are quoted
-abbrev exprs : List Case → List Case
-exprs [] = []
-exprs (c ∷ cs) = cond (c .is-unit) (exprs cs) (c ∷ exprs cs)
-
 abbrev pub rows : List Case
-rows = exprs rows-of-01
+rows = rows-of-01
 
 -- a print over some room: its answer, every byte of the room, and the part that is handed back
 pub record Print : Type 0 where
@@ -33,17 +32,20 @@ pub record Print : Type 0 where
   pub room : List ℕ
   pub part : List ℕ
 
--- what is said of a case: a print over any room, over one that is as long as the text, over one that is a byte too short; and the joined question
+-- what is said of a case: a print over any room, over one that is as long as the text, over one that is a byte too short (if the text has a byte); and the joined question
 pub record Calls : Type 0 where
   pub any : Print
   pub exact : Print
   pub short : Print
   pub joined : Option Whether
 
+abbrev root : Case → Root
+root c = cond (c .is-unit) Unit Expr
+
 abbrev print : Case → List ℕ → Print
 print c room =
-    let o = exprOutcome (c .settings) (c .records) (c .names) room in
-    let t = exprText (c .settings) (c .records) (c .names) in
+    let o = printOutcome (root c) (c .settings) (c .records) (c .names) room in
+    let t = rootText (root c) (c .settings) (c .records) (c .names) in
     record { answer = o; room = roomAfter o t room; part = front o t }
 
 -- a room of n bytes
@@ -56,7 +58,7 @@ promised room c = record {
   any = print c room;
   exact = print c (blank (length (c .outcome .text)));
   short = print c (blank (length (c .outcome .text) - 1));
-  joined = some (joinedOutcome (c .records) (c .names));
+  joined = cond (c .is-unit) none (some (joinedOutcome (c .records) (c .names)));
 }
 
 -- what the row says
@@ -68,10 +70,11 @@ abbrev pub claimed : List ℕ → Case → Calls
 claimed room c =
     let t = c .outcome .text in
     let o = fitted t room in
+    let whole : Print = record { answer = Text (length t); room = t; part = t } in
     record {
       any = record { answer = o; room = roomAfter o t room; part = front o t };
-      exact = record { answer = Text (length t); room = t; part = t };
-      short = record { answer = Refused RoomTooSmall (length t); room = blank (length t - 1); part = [] };
+      exact = whole;
+      short = cond (eqb (length t) 0) whole (record { answer = Refused RoomTooSmall (length t); room = blank (length t - 1); part = [] });
       joined = said (c .outcome .joined);
     }
 
@@ -79,6 +82,6 @@ pub match : (room : List ℕ) → map (promised room) rows ≡ map (claimed room
 unfolding computing checking fitted outcome judged
 match room = refl
 
--- 14 trees, each in TIGHT and in OPEN
-pub all-there : length rows ≡ 28
+-- 14 expressions and 3 units, each in TIGHT and in OPEN
+pub all-there : length rows ≡ 34
 all-there = refl

@@ -9,12 +9,12 @@ use Rattle.glsl.specs.declared.Printed.{Printed}
 use Rattle.glsl.specs.declared.Printed.the-variants.{Text, Refused}
 use Rattle.glsl.specs.Printed.{Prints, refusalNumber, value}
 
--- print_expr_into: the answer and every byte of the room
+-- print_unit_into and print_expr_into: the answer and every byte of the room
 module _ {o : Printed} {text room room₁ room₂ : List ℕ} {r s : Printed} (a : Prints o text room room₁ r) (b : Prints o text room room₂ s) where
   pub unique : (r ≡ s) × (room₁ ≡ room₂)
   unique = (a .answered ∙ sym (b .answered), a .left ∙ sym (b .left))
 
--- print_expr (the part, the number, the place), joined, and the C functions promise equations
+-- print_unit and print_expr (the part, the number, the place), joined, and the C functions promise equations
 pub one-value : {A : Type 0} {x y z : A} → x ≡ z → y ≡ z → x ≡ y
 one-value e f = e ∙ sym f
 

@@ -1,5 +1,5 @@
 -- The one outcome of a print (01, "Calls"): its answer, every byte of the room, and the part that is handed back, from the settings that were read, the
--- check of the records and the text; then those of an expression. Assumes nothing.
+-- check of the records and the text; then those of a unit and of an expression. Assumes nothing.
 use mathlib.Core.Path.{_≡_}
 use mathlib.Core.Bool.{cond}
 use mathlib.Core.List.{List, [], _++_}
@@ -11,20 +11,18 @@ use Rattle.settings.specs.declared.SettingsRead.{SettingsRead}
 use Rattle.settings.specs.declared.SettingsRead.the-variants as Settings
 use Rattle.settings.specs.Settings.{readSettings}
 use Rattle.settings.specs.State.{fresh}
-use Rattle.shapes.specs.Class.{Class}
 use Rattle.accept.specs.declared.Refusal.the-variants as Why
 use Rattle.accept.specs.declared.Checked.{Checked}
 use Rattle.accept.specs.declared.Checked.the-variants as Check
 use Rattle.accept.specs.Refusal.{number}
 use Rattle.accept.specs.Check.{check}
 use Rattle.checks.specs.Answer.{refusalAnswer}
-use Rattle.text.specs.Command.{Command}
-use Rattle.text.specs.Text.{show-expr}
-use Rattle.text.specs.Reading.{itemAt}
-use Rattle.text.specs.Whole.{exprText}
 use Rattle.pen.specs.declared.Pen.{Pen}
+use Rattle.glsl.specs.declared.Root.the-variants as Root
+use Rattle.glsl.specs.declared.Root.{Root}
 use Rattle.glsl.specs.declared.Printed.{Printed}
 use Rattle.glsl.specs.declared.Printed.the-variants as Answer
+use Rattle.glsl.specs.Root.{rootClass, rootText}
 
 -- a text for a room: its length, or refusal 13 with the length that it needs
 unfoldable pub fitted : (text room : List ℕ) → Printed
@@ -74,13 +72,16 @@ unfoldable pub printedBits : Printed → ℤ
 printedBits (Answer.Text n) = pos n
 printedBits (Answer.Refused x p) = refusalAnswer x p
 
--- of an expression
+-- of either root; of a unit; of an expression
+abbrev pub printOutcome : Root → (settings records names room : List ℕ) → Printed
+printOutcome root settings records names room = outcome (readSettings settings) (check records names (rootClass root)) (rootText root settings records names) room
+
+abbrev pub unitOutcome : (settings records names room : List ℕ) → Printed
+unitOutcome settings records names room = printOutcome Root.Unit settings records names room
+
 abbrev pub exprOutcome : (settings records names room : List ℕ) → Printed
-exprOutcome settings records names room = outcome (readSettings settings) (check records names Class.expr) (exprText settings records names) room
+exprOutcome settings records names room = printOutcome Root.Expr settings records names room
 
--- what the functions within speak of: the commands of its text, and where every print starts (at the front, before the first record, in a fresh state)
-abbrev pub exprCommands : (records names : List ℕ) → List Command
-exprCommands records names = show-expr (itemAt records names 0 .expr .tree)
-
+-- where every print starts: at the front, before the first record, in a fresh state
 abbrev pub start : Pen
 start = record { at = 0; next = 0; state = fresh }

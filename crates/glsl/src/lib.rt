@@ -1,17 +1,28 @@
-// The public calls on expressions (01, "Calls"), and the C functions over them. (The call that hands out a name is `records::name`.)
+// The public calls (01, "Calls"), and the C functions over them. (The call that hands out a name is `records::name`.)
 ghost use mathlib.Core.Path.{_≡_};
 ghost use Prim.Native.Nat.{_<_, _^_};
+ghost use Rattle.words.specs.Table as Table;
 ghost use Rattle.settings.specs.State.{fresh};
+ghost use Rattle.accept.specs.Check.{check};
 ghost use Rattle.text.specs.Pen.{text};
-ghost use Rattle.text.specs.Whole.{exprText};
+ghost use Rattle.text.specs.Whole.{unitText, exprText};
 ghost use Rattle.pen.specs.Free.{Free};
-ghost use Rattle.glsl.specs.Printed.{start, fitted, roomAfter, Prints, writtenLength, front, refusalNumber, refusalPlace, value, printedBits, exprCommands, exprOutcome};
+ghost use Rattle.leaves.specs.Shown.{Shows};
+ghost use Rattle.glsl.specs.Root.{rootClass, rootText, rootReader, rootShow, rootCommands};
+ghost use Rattle.glsl.specs.Printed.{start, fitted, roomAfter, Prints, writtenLength, front, refusalNumber, refusalPlace, value, printedBits, printOutcome, unitOutcome, exprOutcome};
 ghost use Rattle.glsl.specs.Joined.{joinedOutcome, joinedPlace, joinedBits};
 use accept::Checked;
 use accept::Refusal;
 use pen::Pen;
 use settings::Settings;
 use settings::SettingsRead;
+use words::rows::Words;
+
+// What is printed. The functions within take it, so that each is written and proved once.
+enum Root {
+    Unit,
+    Expr,
+}
 
 // The answer of a print: the length of its text, or the refusal with its place. specs/Printed.antt gives the paper's number of each case.
 pub enum Printed {
@@ -30,34 +41,77 @@ fn start(s: Settings) -> Pen
     }
 }
 
-// Measures the expression over an empty part of the room, and writes it where it fits. That its text meets no cap of the pen is what accepted records and
+// The record check of what is printed.
+fn check_root(root: Root, records: &[u8], names: &[u8]) -> Checked
+    ensures { λ r. ⌜ r ≡ check (now (records .entry)) (now (names .entry)) (rootClass root) ⌝ }
+{
+    match root {
+        Root::Unit => accept::check_unit(records, names),
+        Root::Expr => accept::check_expr(records, names),
+    }
+}
+
+// The printer of what is printed.
+fn show_root(
+    root: Root,
+    s: Settings,
+    t: &Words,
+    records: &[u8],
+    names: &[u8],
+    room: &mut [u8],
+    pen: Pen,
+) -> Pen
+    requires { ⌜ now t ≡ Table.table ⌝ }
+    ensures { λ r. ⌜ Shows (rootShow root s) (rootReader root) s (now (records .entry)) (now (names .entry)) (now (room .entry)) pen (now (room .exit)) r ⌝ }
+{
+    match root {
+        Root::Unit => show_unit::show_translation_unit(s, t, records, names, room, pen),
+        Root::Expr => show_expr::show_expr(s, t, records, names, room, pen),
+    }
+}
+
+// Measures the text over an empty part of the room, and writes it where it fits. That it meets no cap of the pen is what accepted records and
 // settings give.
-fn put_expr(s: Settings, records: &[u8], names: &[u8], room: &mut [u8]) -> Printed
-    requires { ⌜ Free s (exprCommands (now records) (now names)) start ⌝ }
-    ensures { λ r. let t = text s (exprCommands (now (records .entry)) (now (names .entry))) fresh in ⌜ Prints (fitted t (now (room .entry))) t (now (room .entry)) (now (room .exit)) r ⌝ }
+fn put(root: Root, s: Settings, records: &[u8], names: &[u8], room: &mut [u8]) -> Printed
+    requires { ⌜ Free s (rootCommands root s (now records) (now names)) start ⌝ }
+    ensures { λ r. let t = text s (rootCommands root s (now (records .entry)) (now (names .entry))) fresh in ⌜ Prints (fitted t (now (room .entry))) t (now (room .entry)) (now (room .exit)) r ⌝ }
 {
     let t = words::table();
     let pen = start(s);
-    let measured = show_expr::show_expr(s, &t, records, names, &mut room[..0], pen);
+    let measured = show_root(root, s, &t, records, names, &mut room[..0], pen);
     let n = measured.at as usize;
     if room.len() < n {
         return Printed::Refused(Refusal::RoomTooSmall, n);
     }
-    show_expr::show_expr(s, &t, records, names, room, pen);
+    show_root(root, s, &t, records, names, room, pen);
     Printed::Text(n)
 }
 
-// Prints an expression: its text is at the front of the room, or nothing is altered.
-pub fn print_expr_into(settings: &[u8], records: &[u8], names: &[u8], room: &mut [u8]) -> Printed
-    ensures { λ r. ⌜ Prints (exprOutcome (now (settings .entry)) (now (records .entry)) (now (names .entry)) (now (room .entry))) (exprText (now (settings .entry)) (now (records .entry)) (now (names .entry))) (now (room .entry)) (now (room .exit)) r ⌝ }
+// The text is at the front of the room, or nothing is altered.
+fn print_into(root: Root, settings: &[u8], records: &[u8], names: &[u8], room: &mut [u8]) -> Printed
+    ensures { λ r. ⌜ Prints (printOutcome root (now (settings .entry)) (now (records .entry)) (now (names .entry)) (now (room .entry))) (rootText root (now (settings .entry)) (now (records .entry)) (now (names .entry))) (now (room .entry)) (now (room .exit)) r ⌝ }
 {
     match Settings::read(settings) {
         SettingsRead::Refused => Printed::Refused(Refusal::SettingsOutOfRange, 0),
-        SettingsRead::Read(s) => match accept::check_expr(records, names) {
+        SettingsRead::Read(s) => match check_root(root, records, names) {
             Checked::Refused(x, p) => Printed::Refused(x, p),
-            Checked::Next(_) => put_expr(s, records, names, room),
+            Checked::Next(_) => put(root, s, records, names, room),
         },
     }
+}
+
+// Prints a unit: its text is at the front of the room, or nothing is altered.
+pub fn print_unit_into(settings: &[u8], records: &[u8], names: &[u8], room: &mut [u8]) -> Printed
+    ensures { λ r. ⌜ Prints (unitOutcome (now (settings .entry)) (now (records .entry)) (now (names .entry)) (now (room .entry))) (unitText (now (settings .entry)) (now (records .entry)) (now (names .entry))) (now (room .entry)) (now (room .exit)) r ⌝ }
+{
+    print_into(Root::Unit, settings, records, names, room)
+}
+
+// Prints an expression, likewise.
+pub fn print_expr_into(settings: &[u8], records: &[u8], names: &[u8], room: &mut [u8]) -> Printed
+    ensures { λ r. ⌜ Prints (exprOutcome (now (settings .entry)) (now (records .entry)) (now (names .entry)) (now (room .entry))) (exprText (now (settings .entry)) (now (records .entry)) (now (names .entry))) (now (room .entry)) (now (room .exit)) r ⌝ }
+{
+    print_into(Root::Expr, settings, records, names, room)
 }
 
 // The paper's number of an answer, 0 for a text.
@@ -90,8 +144,41 @@ fn written(o: Printed) -> usize
     }
 }
 
-// Prints an expression and hands back the written front of the room, empty on refusal; the refusal's number, 0 if there is none, and its place go to two
-// lent numbers. (Of a room that is handed back in part a contract can say no more than the part: that a refusal alters nothing, and what stands behind the text, `print_expr_into` promises.)
+// The written front of the room, empty on refusal; the refusal's number, 0 if there is none, and its place go to two lent numbers.
+fn print<'a, 'b>(
+    root: Root,
+    settings: &'b [u8],
+    records: &'b [u8],
+    names: &'b [u8],
+    room: &'a mut [u8],
+    no: &'b mut u64,
+    place: &'b mut u64,
+) -> &'a mut [u8]
+    ensures { λ r. let o = printOutcome root (now (settings .entry)) (now (records .entry)) (now (names .entry)) (now (room .entry)) in ⌜ (now r ≡ front o (rootText root (now (settings .entry)) (now (records .entry)) (now (names .entry)))) × (now (no .exit) ≡ refusalNumber o) × (now (place .exit) ≡ refusalPlace o) ⌝ }
+{
+    let o = print_into(root, settings, records, names, &mut *room);
+    *no = number_of(o);
+    *place = place_of(o);
+    let n = written(o);
+    &mut room[..n]
+}
+
+// Prints a unit and hands back the written front of the room, empty on refusal; the refusal's number, 0 if there is none, and its place go to two
+// lent numbers. (Of a room that is handed back in part a contract can say no more than the part: that a refusal alters nothing, and what stands behind the text, `print_unit_into` promises.)
+pub fn print_unit<'a, 'b>(
+    settings: &'b [u8],
+    records: &'b [u8],
+    names: &'b [u8],
+    room: &'a mut [u8],
+    no: &'b mut u64,
+    place: &'b mut u64,
+) -> &'a mut [u8]
+    ensures { λ r. let o = unitOutcome (now (settings .entry)) (now (records .entry)) (now (names .entry)) (now (room .entry)) in ⌜ (now r ≡ front o (unitText (now (settings .entry)) (now (records .entry)) (now (names .entry)))) × (now (no .exit) ≡ refusalNumber o) × (now (place .exit) ≡ refusalPlace o) ⌝ }
+{
+    print(Root::Unit, settings, records, names, room, no, place)
+}
+
+// Prints an expression and hands back the written front of the room, likewise.
 pub fn print_expr<'a, 'b>(
     settings: &'b [u8],
     records: &'b [u8],
@@ -102,11 +189,7 @@ pub fn print_expr<'a, 'b>(
 ) -> &'a mut [u8]
     ensures { λ r. let o = exprOutcome (now (settings .entry)) (now (records .entry)) (now (names .entry)) (now (room .entry)) in ⌜ (now r ≡ front o (exprText (now (settings .entry)) (now (records .entry)) (now (names .entry)))) × (now (no .exit) ≡ refusalNumber o) × (now (place .exit) ≡ refusalPlace o) ⌝ }
 {
-    let o = print_expr_into(settings, records, names, &mut *room);
-    *no = number_of(o);
-    *place = place_of(o);
-    let n = written(o);
-    &mut room[..n]
+    print(Root::Expr, settings, records, names, room, no, place)
 }
 
 // The 64 bits of an answer.
@@ -120,6 +203,26 @@ fn printed_bits(o: Printed) -> i64
     }
 }
 
+// A print with its answer in 64 bits.
+fn print_bits(root: Root, settings: &[u8], records: &[u8], names: &[u8], room: &mut [u8]) -> i64
+    ensures { λ r. let o = printOutcome root (now (settings .entry)) (now (records .entry)) (now (names .entry)) (now (room .entry)) in ⌜ (r ≡ printedBits o) × (now (room .exit) ≡ roomAfter o (rootText root (now (settings .entry)) (now (records .entry)) (now (names .entry))) (now (room .entry))) ⌝ }
+{
+    printed_bits(print_into(root, settings, records, names, room))
+}
+
+// The calls for C: each slice is a pointer and a length, the answer the length of the text or a refusal with its place.
+#[no_mangle]
+pub extern "C" fn glsl_print_unit(
+    settings: &[u8],
+    records: &[u8],
+    names: &[u8],
+    room: &mut [u8],
+) -> i64
+    ensures { λ r. let o = unitOutcome (now (settings .entry)) (now (records .entry)) (now (names .entry)) (now (room .entry)) in ⌜ (r ≡ printedBits o) × (now (room .exit) ≡ roomAfter o (unitText (now (settings .entry)) (now (records .entry)) (now (names .entry))) (now (room .entry))) ⌝ }
+{
+    print_bits(Root::Unit, settings, records, names, room)
+}
+
 #[no_mangle]
 pub extern "C" fn glsl_print_expr(
     settings: &[u8],
@@ -129,7 +232,7 @@ pub extern "C" fn glsl_print_expr(
 ) -> i64
     ensures { λ r. let o = exprOutcome (now (settings .entry)) (now (records .entry)) (now (names .entry)) (now (room .entry)) in ⌜ (r ≡ printedBits o) × (now (room .exit) ≡ roomAfter o (exprText (now (settings .entry)) (now (records .entry)) (now (names .entry))) (now (room .entry))) ⌝ }
 {
-    printed_bits(print_expr_into(settings, records, names, room))
+    print_bits(Root::Expr, settings, records, names, room)
 }
 
 // The answer to the joined question. specs/Joined.antt gives the paper's number of each case.

@@ -1,0 +1,47 @@
+-- `glsl::print` meets its contract: the part is the front of what `print_into` left. Assumes nothing.
+use mathlib.Core.Path.{_∙_, ap}
+use Rattle.settings.specs.Settings.{readSettings}
+use Rattle.accept.specs.Check.{check}
+use Rattle.glsl.specs.Root.{rootClass, rootText}
+use Rattle.glsl.specs.Printed.{refusalNumber, refusalPlace, printOutcome}
+use Rattle.glsl.proofs.Outcome.{outcome-long, part-is, part-long}
+use borrow.Author.Needs.{needs}
+use Rattle.glsl.proofs.print.Statement.{statement}
+use Rattle.glsl.proofs.print.Tie as tie
+
+print-into-requires : tie.Need-print-into-requires
+print-into-requires c κs = search needs
+
+number-of-requires : tie.Need-number-of-requires
+number-of-requires c κs = search needs
+
+place-of-requires : tie.Need-place-of-requires
+place-of-requires c κs = search needs
+
+written-requires : tie.Need-written-requires
+written-requires c κs = search needs
+
+slice-aggregate-result : tie.Need-slice-aggregate-result
+slice-aggregate-result c =
+    let a = c .before .before .before .before .before .before .before .before .before .before .before .before .args in
+    part-long (printOutcome (a .root) (a .settings .now) (a .records .now) (a .names .now) (a .room .now)) (rootText (a .root) (a .settings .now) (a .records .now) (a .names .now)) (a .room .now) (outcome-long (readSettings (a .settings .now)) (check (a .records .now) (a .names .now) (rootClass (a .root))) (rootText (a .root) (a .settings .now) (a .records .now) (a .names .now)) (a .room .now)) (c .before .before .before .before .before .before .print-into .ensures) (c .before .written .ensures)
+
+returns : tie.Need-returns
+returns c =
+    let a = c .before .before .before .before .before .before .before .before .before .before .before .before .args in
+    let e = c .before .before .before .before .before .before .print-into .ensures .answered in (
+      part-is (printOutcome (a .root) (a .settings .now) (a .records .now) (a .names .now) (a .room .now)) (rootText (a .root) (a .settings .now) (a .records .now) (a .names .now)) (a .room .now) (outcome-long (readSettings (a .settings .now)) (check (a .records .now) (a .names .now) (rootClass (a .root))) (rootText (a .root) (a .settings .now) (a .records .now) (a .names .now)) (a .room .now)) (c .before .before .before .before .before .before .print-into .ensures) (c .before .written .ensures),
+      c .before .before .before .number-of .ensures ∙ ap refusalNumber e,
+      c .before .before .place-of .ensures ∙ ap refusalPlace e,
+    )
+
+pub print-spec : {M : Type 1} → statement M
+print-spec =
+    tie.close
+    (tie.spec
+    print-into-requires
+    number-of-requires
+    place-of-requires
+    written-requires
+    slice-aggregate-result
+    returns)
