@@ -90,7 +90,8 @@ fn read_question([root, settings, records, names]: [&str; 4]) -> Result<Question
     Ok(Question { root: read_root(root)?, settings: bytes(settings)?, records: bytes(records)?, names: bytes(names)? })
 }
 
-fn read_root(word: &str) -> Result<Root, Fault> {
+/// The root of a word.
+pub fn read_root(word: &str) -> Result<Root, Fault> {
     match word {
         "Unit" => Ok(Root::Unit),
         "Expr" => Ok(Root::Expr),

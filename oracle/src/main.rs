@@ -10,7 +10,8 @@ const USAGE: &str = "\
 usage: oracle answer               reads lines `Unit|Expr SETTINGS RECORDS NAMES`, writes them with TEXT and JOINED
        oracle check FILE           compares the lines of FILE, which have all six fields, with the oracle's answers
        oracle vectors SEED COUNT   writes COUNT random questions with their answers
-       oracle sample SEED          writes the sample that crates/replay replays (see `oracle::sample` for its format)
+       oracle sample Unit|Expr SEED
+                                   writes the sample that crates/replay replays (see `oracle::sample` for its format)
 Bytes are in hex, - for none. JOINED is 0 or 1, and 2 for a unit. A field !N@P is refusal N at place P; a field ? says
 that the Rust module must not be asked, since a float text is not what Rust's Display gives.";
 
@@ -24,7 +25,7 @@ fn main() -> ExitCode {
         ["answer"] => answer_lines(io::stdin().lock()),
         ["check", file] => check_file(file),
         ["vectors", seed, count] => vectors(seed, count),
-        ["sample", seed] => write_sample(seed),
+        ["sample", root, seed] => write_sample(root, seed),
         _ => Err(USAGE.to_owned()),
     };
     match verdict {
@@ -86,9 +87,10 @@ fn vectors(seed: &str, count: &str) -> Verdict {
     Ok(true)
 }
 
-/// `sample`: the file of a seed.
-fn write_sample(seed: &str) -> Verdict {
-    let file = sample::file(number(seed)?);
+/// `sample`: the file of a root and a seed.
+fn write_sample(root: &str, seed: &str) -> Verdict {
+    let root = line::read_root(root).map_err(message)?;
+    let file = sample::file(root, number(seed)?);
     io::stdout().lock().write_all(&file).map_err(message)?;
     Ok(true)
 }

@@ -1,13 +1,17 @@
-//! The stored sample: some hundred expressions with the oracle's answers, which a Rattle program replays (crates/replay).
+//! The stored samples: some hundred trees with one root each, with the oracle's answers, which a Rattle program replays
+//! (crates/replay).
 //!
-//! A file is records of twelve bytes and byte strings. Its first record has the number of cases in `a`. A case is three
-//! records, then its settings, records, names and the room behind the call:
+//! A file is records of twelve bytes and byte strings. Its first record has the number of cases in `a`, and its kind says
+//! which print is asked: 80 that of a unit, 0 that of an expression. A case is three records, then its settings, records,
+//! names and the room behind the call:
 //!
 //! | record | kind | a | b |
 //! |---|---|---|---|
 //! | 0 | the print's refusal, 0 for none | length of the settings | length of the records |
 //! | 1 | the joined question's refusal, 0 for none | length of the names | length of the room |
 //! | 2 | 0 | the print's length or place | 1 joined, 0 not, or the place |
+//!
+//! The joined question is not asked about units: both of its numbers are 0.
 
 use crate::answer::{answer, Outcome, Question, Root};
 use crate::cases::{cover, damage, limits, tight};
@@ -17,7 +21,7 @@ use crate::read;
 use crate::record::Record;
 use crate::refusal::Refusal;
 use crate::settings;
-use crate::tree::{all, int, keyword, many, named, plain, rec, var};
+use crate::tree::{all, declared, function, int, keyword, many, named, plain, rec, var};
 use crate::words;
 use std::collections::BTreeMap;
 
@@ -33,6 +37,8 @@ const DAMAGES: usize = 400;
 const JOINED: usize = 60;
 /// Refusals are taken at the first so many places.
 const PLACES: usize = 12;
+/// The first record's kind in a sample of units.
+const UNITS: u8 = 80;
 /// Why a number fits its field.
 const SMALL: &str = "inputs are small";
 
@@ -72,10 +78,11 @@ impl Case {
                 }
             }
         };
-        let joined = match answer.joined? {
-            Outcome::NotAsked => return None,
-            Outcome::Refused(refusal) => numbers(refusal),
-            Outcome::Given(is_joined) => (0, usize::from(is_joined)),
+        let joined = match answer.joined {
+            Some(Outcome::NotAsked) => return None,
+            Some(Outcome::Refused(refusal)) => numbers(refusal),
+            Some(Outcome::Given(is_joined)) => (0, usize::from(is_joined)),
+            None => (0, 0),
         };
         Some(Self { question, print, joined, room })
     }
@@ -106,51 +113,97 @@ fn blank(length: usize) -> Vec<u8> {
     vec![BLANK; length]
 }
 
-/// The file of a seed.
-pub fn file(seed: u64) -> Vec<u8> {
-    let cases = cases(seed);
-    let count = u32::try_from(cases.len()).expect(SMALL);
-    let first = Record { a: count, ..Record::default() }.to_bytes().to_vec();
+/// The file of a root and a seed.
+pub fn file(root: Root, seed: u64) -> Vec<u8> {
+    let cases = cases(root, seed);
+    let kind = match root {
+        Root::Unit => UNITS,
+        Root::Expr => 0,
+    };
+    let first = Record { kind, a: u32::try_from(cases.len()).expect(SMALL), ..Record::default() };
+    let first = first.to_bytes().to_vec();
     [first].into_iter().chain(cases.iter().map(Case::to_bytes)).collect::<Vec<_>>().concat()
 }
 
-/// The cases of a seed: the smallest trees with each kind and variant in three rooms, trees of all sizes that are joined,
-/// every value of every setting, every refusal in several places, and the limits.
-pub fn cases(seed: u64) -> Vec<Case> {
-    let trees = cover::smallest(Root::Expr, seed, GROWN);
-    let covering = trees.iter().flat_map(|tree| [Room::OneShort, Room::Exact, Room::Larger].map(|room| (tree, room)));
-    let covering = covering.map(|(tree, room)| (tree.clone(), room));
-    let others = joined(seed).chain(each_setting()).chain(refused(&trees, seed)).chain(at_limits());
+/// The cases of a root and a seed: the smallest trees with each kind and variant in three rooms, expressions of all sizes
+/// that are joined, every value of every setting, every refusal in several places, and the limits.
+pub fn cases(root: Root, seed: u64) -> Vec<Case> {
+    let trees = cover::smallest(root, seed, GROWN);
+    let covering = trees.iter().cloned().chain((root == Root::Unit).then(int_x));
+    let covering =
+        covering.flat_map(|tree| [Room::OneShort, Room::Exact, Room::Larger].map(|room| (tree.clone(), room)));
+    let others = joined(root, seed).chain(each_setting(root)).chain(refused(&trees, seed)).chain(at_limits(root));
     covering.chain(others.map(|question| (question, Room::Larger))).filter_map(|(q, room)| Case::new(q, room)).collect()
 }
 
-/// Grown trees that are joined.
-fn joined(seed: u64) -> impl Iterator<Item = Question> {
-    let grown = (0..).map(move |case| grow::rooted(Root::Expr, seed, case));
-    grown.filter(|question| answer(question).joined == Some(Outcome::Given(true))).take(JOINED)
+/// `int x;`, for which document 01 names the rooms of 6 and 5 bytes.
+fn int_x() -> Question {
+    Question {
+        settings: settings::OPEN.to_vec(),
+        ..tight(Root::Unit, all(&[&many(80, 1), &declared(0), &keyword(2)]), "x")
+    }
 }
 
-/// A text on which every setting that an expression can see is seen: `struct S{const int a[b+1],c;int a;}(a,b)`.
-fn telling() -> Question {
+/// Grown expressions that are joined.
+fn joined(root: Root, seed: u64) -> impl Iterator<Item = Question> {
+    let grown = (0..).map(move |case| grow::rooted(Root::Expr, seed, case));
+    let joined = grown.filter(|question| answer(question).joined == Some(Outcome::Given(true)));
+    joined.take(if root == Root::Expr { JOINED } else { 0 })
+}
+
+/// A text on which every setting is seen that a tree with this root can see.
+fn telling(root: Root) -> Question {
+    match root {
+        Root::Expr => tight(root, telling_expr(), "abcS"),
+        Root::Unit => tight(root, telling_unit(), "abcfS"),
+    }
+}
+
+/// `struct S{const int a[b+1],c;int a;}(a,b)`.
+fn telling_expr() -> Vec<u8> {
     let array = all(&[&many(24, 1), &plain(25, 1), &plain(8, 14), &var(1), &int(1)]);
     let first = all(&[&rec(26, 1, 2, 0, 0), &many(28, 1), &plain(29, 0), &keyword(2), &named(27, 1, 0), &array]);
     let second = all(&[&many(26, 1), &keyword(2), &named(27, 0, 0)]);
     let structure = all(&[&plain(20, 0), &rec(23, 1, 2, 3, 1), &first, &named(27, 0, 2), &second]);
-    tight(Root::Expr, all(&[&many(12, 2), &structure, &var(0), &var(1)]), "abcS")
+    all(&[&many(12, 2), &structure, &var(0), &var(1)])
 }
 
-/// Every value of every byte of the settings and one beyond it, in TIGHT and in OPEN, and other lengths.
-fn each_setting() -> impl Iterator<Item = Question> {
-    let values = settings::GREATEST.into_iter().enumerate().flat_map(|(at, most)| (0..=most + 1).map(move |v| (at, v)));
-    let records = [settings::TIGHT, settings::OPEN].into_iter().flat_map(move |base| {
-        values.clone().map(move |(at, value)| {
+/// `struct S{int a;float b;}c;`, `void f(){int a[]={1,2};for(;a;a++){b;}if(a){b;}else{c;}switch(a){case 1:break;default:}return
+/// a+b;}` and `invariant a;`.
+fn telling_unit() -> Vec<u8> {
+    let field = |keyword_: u8, name: u32| all(&[&many(26, 1), &keyword(keyword_), &named(27, 0, name)]);
+    let structure = all(&[&declared(2), &plain(20, 0), &rec(23, 1, 2, 4, 1), &field(2, 0), &field(4, 1)]);
+    let first = all(&[&plain(47, 1), &plain(42, 0), &named(43, 7, 0), &plain(31, 0), &keyword(2)]);
+    let members = all(&[&rec(45, 1, 2, 0, 0), &plain(45, 0), &int(1), &plain(45, 0), &int(2)]);
+    let list = all(&[&first, &many(24, 1), &plain(25, 0), &members]);
+    let block = |name| all(&[&many(60, 1), &plain(61, 1), &var(name)]);
+    let head = all(&[&plain(67, 3), &plain(70, 0), &plain(69, 0), &var(0), &plain(14, 0), &var(0)]);
+    let choice = all(&[&plain(62, 1), &var(0), &block(1), &block(2)]);
+    let switch = all(&[&many(63, 3), &var(0), &plain(64, 1), &int(1), &plain(68, 1), &plain(64, 0)]);
+    let sum = all(&[&plain(68, 4), &plain(8, 14), &var(0), &var(1)]);
+    let body = all(&[&many(60, 5), &list, &head, &block(1), &choice, &switch, &sum]);
+    all(&[&many(80, 3), &structure, &function(3), &body, &named(47, 4, 0)])
+}
+
+/// The settings of which one byte at a time is changed: tight ones, which collapse a unit's statements, and OPEN.
+fn bases(root: Root) -> [[u8; settings::SIZE]; 2] {
+    let mut first = settings::TIGHT;
+    first[settings::COLLAPSE] = u8::from(root == Root::Unit);
+    [first, settings::OPEN]
+}
+
+/// Every value of every byte of the settings and one beyond it, and other lengths.
+fn each_setting(root: Root) -> impl Iterator<Item = Question> {
+    let beyond = settings::GREATEST.into_iter().enumerate().map(|(at, greatest)| (at, greatest + 1));
+    let records = bases(root).into_iter().flat_map(move |base| {
+        settings::values().chain(beyond.clone()).map(move |(at, value)| {
             let mut bytes = base;
             bytes[at] = value;
             bytes.to_vec()
         })
     });
     let lengths = [0, 20, 22].map(|length| vec![0; length]);
-    records.chain(lengths).map(|settings| Question { settings, ..telling() })
+    records.chain(lengths).map(move |settings| Question { settings, ..telling(root) })
 }
 
 /// The shortest damaged trees that are refused with each number at each place.
@@ -170,15 +223,16 @@ fn refused(trees: &[Question], seed: u64) -> impl Iterator<Item = Question> {
     shortest.into_values()
 }
 
-/// At the limits and beyond: depth, number of records, size of the names, lengths of texts and their ends, integers.
-fn at_limits() -> impl Iterator<Item = Question> {
-    let deepest = limits::deepest().filter(|question| question.root == Root::Expr).step_by(3);
-    let deep = deepest.flat_map(|question| {
-        let deeper = Question { records: all(&[&plain(7, 4), &question.records]), ..question.clone() };
-        [question, deeper]
-    });
+/// At the limits and beyond: depth; of expressions also number of records, size of the names, lengths of texts and their
+/// ends, integers.
+fn at_limits(root: Root) -> impl Iterator<Item = Question> {
+    let deep = limits::around_deepest().filter(move |[deepest, _]| deepest.root == root).step_by(3).flatten();
+    deep.chain((root == Root::Expr).then(expr_limits).into_iter().flatten())
+}
+
+fn expr_limits() -> impl Iterator<Item = Question> {
     let most = u16::try_from(read::MOST_RECORDS).expect(SMALL);
-    let wide = [most, most + 1].map(limits::flat).map(|[call, _]| call);
+    let wide = [most, most + 1].map(limits::flat).map(|[call, _]| call).into_iter();
     let names = [0, 1].map(|more| expr(var(0), &vec![b'x'; read::MOST_NAMES + more]));
     let texts = [(1, b'x', words::LONGEST_NAME), (6, b'1', words::LONGEST_FLOAT)];
     let texts = texts.into_iter().flat_map(|(kind, byte, most)| {
@@ -189,7 +243,7 @@ fn at_limits() -> impl Iterator<Item = Question> {
     let ends = ends.map(|(a, b)| expr(rec(1, 0, 0, a, b), b"xy"));
     let integers = [0, 9, 10, i32::MAX.cast_unsigned(), i32::MIN.cast_unsigned(), u32::MAX];
     let integers = integers.into_iter().flat_map(|bits| [2, 3].map(|kind| expr(rec(kind, 0, 0, bits, 0), b"")));
-    deep.chain(wide).chain(names).chain(texts).chain(ends).chain(integers)
+    wide.chain(names).chain(texts).chain(ends).chain(integers)
 }
 
 fn expr(records: Vec<u8>, names: &[u8]) -> Question {
@@ -201,35 +255,69 @@ mod tests {
     use super::*;
     use std::collections::BTreeSet;
 
+    const ROOTS: [Root; 2] = [Root::Expr, Root::Unit];
+
     #[test]
-    fn the_sample_has_everything() {
-        let cases = cases(1);
-        assert!((500..=1_000).contains(&cases.len()), "{}", cases.len());
-        let numbers: BTreeSet<u8> = cases.iter().map(|case| case.print.0).collect();
-        assert_eq!(numbers, (0..=13).collect());
-        let good = cases.iter().filter(|case| case.print.0 == 0);
-        let pairs: BTreeSet<_> = good.flat_map(|c| cover::records(&c.question)).map(|r| (r.kind, r.variant)).collect();
-        assert_eq!(pairs, cover::pairs(Root::Expr).collect());
+    fn the_samples_have_everything() {
+        for (root, sizes) in [(Root::Expr, 500..=1_000), (Root::Unit, 500..=1_000)] {
+            let cases = cases(root, 1);
+            assert!(sizes.contains(&cases.len()), "{root:?}: {}", cases.len());
+            let numbers: BTreeSet<u8> = cases.iter().map(|case| case.print.0).collect();
+            let all = (0..=13).filter(|&number| root == Root::Expr || number != 3);
+            assert_eq!(numbers, all.collect());
+            let good = || cases.iter().filter(|case| case.print.0 == 0).map(|case| &case.question);
+            let pairs: BTreeSet<_> = good().flat_map(cover::records).map(|r| (r.kind, r.variant)).collect();
+            assert_eq!(pairs, cover::pairs(root).collect());
+            let values: BTreeSet<_> = good().flat_map(|q| q.settings.iter().copied().enumerate()).collect();
+            assert_eq!(values, settings::values().collect());
+        }
         for joined in [(0, 0), (0, 1)] {
-            assert!(cases.iter().filter(|case| case.joined == joined).count() >= JOINED);
+            assert!(cases(Root::Expr, 1).iter().filter(|case| case.joined == joined).count() >= JOINED);
+        }
+    }
+
+    #[test]
+    fn int_x_is_in_rooms_of_6_and_5_bytes() {
+        let cases: Vec<_> = cases(Root::Unit, 1).into_iter().filter(|case| case.question == int_x()).collect();
+        let answers: Vec<_> = cases.iter().map(|case| (case.print, case.room.as_slice())).collect();
+        assert_eq!(answers[..2], [((13, 6), [BLANK; 5].as_slice()), ((0, 6), b"int x;")]);
+    }
+
+    fn text(question: &Question) -> Option<String> {
+        match answer(question).text {
+            Outcome::Given(text) => Some(text),
+            _ => None,
         }
     }
 
     #[test]
     fn every_setting_of_an_expression_is_seen() {
-        let texts: BTreeSet<String> = each_setting()
-            .filter_map(|question| match answer(&question).text {
-                Outcome::Given(text) => Some(text),
-                _ => None,
-            })
-            .collect();
+        let texts: BTreeSet<String> = each_setting(Root::Expr).filter_map(|question| text(&question)).collect();
         assert!(texts.len() > 30, "{}", texts.len());
     }
 
-    /// The program that replays it has buffers of these sizes.
+    /// Each value of a byte has its own texts, but for struct_declaration_terminator, which only show_struct reads.
     #[test]
-    fn the_sample_is_small() {
-        assert!(file(1).len() <= 1 << 19, "{}", file(1).len());
-        assert!(cases(1).iter().all(|case| case.room.len() <= 1 << 14));
+    fn every_setting_of_a_unit_is_seen() {
+        for (at, greatest) in settings::GREATEST.into_iter().enumerate().filter(|&(at, _)| at != 9) {
+            let texts: BTreeSet<_> = (0..=greatest)
+                .map(|value| {
+                    bases(Root::Unit).map(|mut bytes| {
+                        bytes[at] = value;
+                        text(&Question { settings: bytes.to_vec(), ..telling(Root::Unit) })
+                    })
+                })
+                .collect();
+            assert_eq!(texts.len(), usize::from(greatest) + 1, "{at}");
+        }
+    }
+
+    /// The program that replays them has buffers of these sizes.
+    #[test]
+    fn the_samples_are_small() {
+        for root in ROOTS {
+            assert!(file(root, 1).len() <= 1 << 19, "{root:?}: {}", file(root, 1).len());
+            assert!(cases(root, 1).iter().all(|case| case.room.len() <= 1 << 14));
+        }
     }
 }

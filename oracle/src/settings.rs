@@ -12,6 +12,14 @@ pub const OPEN: [u8; SIZE] = [2, 4, 1, 1, 1, 1, 1, 1, 2, 2, 2, 2, 1, 2, 2, 0, 1,
 /// The greatest value of each byte: the indent and its count, then flags (1) and whitespaces (2).
 pub const GREATEST: [u8; SIZE] = [2, 16, 1, 1, 1, 1, 1, 1, 2, 2, 2, 2, 1, 2, 2, 1, 1, 1, 1, 1, 1];
 
+/// The byte of collapse_single_item_compound_statements.
+pub const COLLAPSE: usize = 15;
+
+/// Each value of each byte: where it stands, and the value.
+pub fn values() -> impl Iterator<Item = (usize, u8)> + Clone {
+    GREATEST.into_iter().enumerate().flat_map(|(at, greatest)| (0..=greatest).map(move |value| (at, value)))
+}
+
 /// Reads a settings record; refusal 1 where it is none.
 pub fn read(bytes: &[u8]) -> Result<FormattingSettings, Refusal> {
     let refusal = Refusal::whole(Reason::Settings);
@@ -46,7 +54,7 @@ fn from_valid(bytes: &[u8; SIZE]) -> FormattingSettings {
         spaces_around_binary_ops: flag(12),
         statement_terminator: whitespace(13),
         function_definition_terminator: whitespace(14),
-        collapse_single_item_compound_statements: flag(15),
+        collapse_single_item_compound_statements: flag(COLLAPSE),
         space_before_else: flag(16),
         space_after_list_separator: flag(17),
         space_after_for_statement_separator: flag(18),

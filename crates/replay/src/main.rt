@@ -1,5 +1,5 @@
-// Replays a sample of the oracle's answers about expressions (oracle/src/sample.rs writes it and has its format): asks the public calls again, and compares
-// answers and every byte of the room. Reading is total: what stands beyond the sample's end reads as nothing, and then the answers differ.
+// Replays samples of the oracle's answers about expressions and units (oracle/src/sample.rs writes them and has their format): asks the public calls again, and
+// compares answers and every byte of the room. Reading is total: what stands beyond a sample's end reads as nothing, and then the answers differ.
 ghost use mathlib.Core.Path.{_≡_};
 ghost use Rattle.io.specs.Counts.{Counts};
 ghost use Rattle.glsl.specs.Printed.{refusalNumber, value};
@@ -12,6 +12,9 @@ use libc::STDOUT_FILENO;
 const RECORD: u32 = 12;
 
 const HEAD: u32 = 36;
+
+// The kind of a sample's first record where its trees are units.
+const UNITS: u8 = 80;
 
 // What a room holds before a call.
 const BLANK: u8 = 165;
@@ -70,8 +73,24 @@ fn end_of(at: u32, n: u32) -> u32 {
     }
 }
 
+// The print of a unit or of an expression.
+fn print_into(
+    is_unit: bool,
+    settings: &[u8],
+    tree: &[u8],
+    names: &[u8],
+    room: &mut [u8],
+) -> Printed {
+    if is_unit {
+        glsl::print_unit_into(settings, tree, names, room)
+    } else {
+        glsl::print_expr_into(settings, tree, names, room)
+    }
+}
+
 // Whether the print answers so, and leaves a blank room as it is said to.
 fn prints_so(
+    is_unit: bool,
     settings: &[u8],
     tree: &[u8],
     names: &[u8],
@@ -82,12 +101,13 @@ fn prints_so(
 ) -> bool {
     let n = room.len();
     room::lay_run(room, 0, BLANK, n);
-    let print = print_answer(glsl::print_expr_into(settings, tree, names, room));
+    let print = print_answer(print_into(is_unit, settings, tree, names, room));
     is(print, number, value) && words::same(room, after)
 }
 
 // The same in the front of a room, as long as what is behind the call.
 fn prints_so_in_front(
+    is_unit: bool,
     settings: &[u8],
     tree: &[u8],
     names: &[u8],
@@ -100,11 +120,25 @@ fn prints_so_in_front(
     if room.len() < n {
         return false;
     }
-    prints_so(settings, tree, names, &mut room[..n], number, value, after)
+    prints_so(
+        is_unit,
+        settings,
+        tree,
+        names,
+        &mut room[..n],
+        number,
+        value,
+        after,
+    )
+}
+
+// Whether the joined question is answered so; a unit is not asked about.
+fn joins_so(is_unit: bool, tree: &[u8], names: &[u8], number: u8, value: u32) -> bool {
+    is_unit || is(joined_answer(glsl::joined(tree, names)), number, value)
 }
 
 // Whether the calls answer as the case at a place says.
-fn agrees(sample: &[u8], place: u32, room: &mut [u8]) -> bool {
+fn agrees(is_unit: bool, sample: &[u8], place: u32, room: &mut [u8]) -> bool {
     let head = records::part_of(sample, place, HEAD);
     let first = records::record_at(head, 0);
     let second = records::record_at(head, 1);
@@ -117,9 +151,17 @@ fn agrees(sample: &[u8], place: u32, room: &mut [u8]) -> bool {
     let tree = records::part_of(sample, tree_at, first.b);
     let names = records::part_of(sample, names_at, second.a);
     let after = records::part_of(sample, after_at, second.b);
-    let joined = joined_answer(glsl::joined(tree, names));
-    is(joined, second.kind, third.b)
-        && prints_so_in_front(settings, tree, names, room, first.kind, third.a, after)
+    joins_so(is_unit, tree, names, second.kind, third.b)
+        && prints_so_in_front(
+            is_unit,
+            settings,
+            tree,
+            names,
+            room,
+            first.kind,
+            third.a,
+            after,
+        )
 }
 
 // Where the case behind the one at a place begins.
@@ -137,14 +179,21 @@ fn cases_in(sample: &[u8]) -> u32 {
     first.a
 }
 
+// Whether the sample's trees are units.
+fn has_units(sample: &[u8]) -> bool {
+    let first = records::record_at(sample, 0);
+    first.kind == UNITS
+}
+
 // The number of the first case that differs, 0 for none.
 fn first_differing(sample: &[u8], room: &mut [u8]) -> u32 {
+    let is_unit = has_units(sample);
     let cases = cases_in(sample);
     let mut place: u32 = RECORD;
     let mut k: u32 = 0;
     while k < cases {
         k += 1;
-        if !agrees(sample, place, room) {
+        if !agrees(is_unit, sample, place, room) {
             return k;
         }
         place = next(sample, place);
@@ -176,10 +225,16 @@ fn load(path: &[u8], buf: &mut [u8]) -> usize
     n
 }
 
+// Replays the sample in a file.
+fn replay(path: &[u8], bytes: &mut [u8], room: &mut [u8]) {
+    let n = load(path, bytes);
+    let sample = &bytes[..n];
+    report(cases_in(sample), first_differing(sample, room));
+}
+
 fn main() {
     let mut bytes = [0u8; 524288];
     let mut room = [0u8; 16384];
-    let n = load(b"expressions.rec", &mut bytes);
-    let sample = &bytes[..n];
-    report(cases_in(sample), first_differing(sample, &mut room));
+    replay(b"expressions.rec", &mut bytes, &mut room);
+    replay(b"units.rec", &mut bytes, &mut room);
 }

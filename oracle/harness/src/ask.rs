@@ -18,6 +18,8 @@ pub struct Said {
     pub is_good: bool,
     /// Whether it is joined, where that was compared.
     pub joined: Option<bool>,
+    /// Prints into a room that fits, a larger one, and one that is a byte too small.
+    pub rooms: [u64; 3],
     /// Where they differ first: the oracle's answer and the library's.
     pub difference: Option<[String; 2]>,
 }
@@ -102,9 +104,11 @@ pub fn print(library: Print, joined: Check, question: &Question) -> Said {
             for room in [length, length + 7] {
                 said.print(library, question, room, Code::given(length), text);
             }
-            if let Some(small) = length.checked_sub(1) {
+            let small = length.checked_sub(1);
+            if let Some(small) = small {
                 said.print(library, question, small, Code::refused(13, length), &[]);
             }
+            said.rooms = [1, 1, small.is_some().into()];
         }
         Outcome::Refused(refusal) => said.print(library, question, 64, Code::refusal(*refusal), &[]),
         Outcome::NotAsked => (),
@@ -181,6 +185,7 @@ mod tests {
         let said = print(print_well, |_| 1, &question());
         assert!(said.difference.is_none());
         assert_eq!((said.is_good, said.joined, said.calls[0], said.calls[13]), (true, Some(true), 3, 1));
+        assert_eq!(said.rooms, [1; 3]);
         assert!(check(|_| 4, &question()).difference.is_none());
     }
 

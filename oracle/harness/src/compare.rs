@@ -6,6 +6,7 @@ use oracle::cases::{cover, damage, large, limits, short};
 use oracle::grow;
 use oracle::line;
 use oracle::random::Random;
+use oracle::settings;
 use std::collections::BTreeMap;
 
 /// Grown trees from which the smallest ones with each kind and variant are taken.
@@ -25,6 +26,8 @@ struct Tally {
     calls: [u64; NUMBERS],
     /// Joined questions that the oracle answers by no, and by yes.
     joined: [u64; 2],
+    /// Prints into a room that fits, a larger one, and one that is a byte too small.
+    rooms: [u64; 3],
     differing: u64,
     /// The shortest question on which the answers differ, with both.
     shortest: Option<(Question, [String; 2])>,
@@ -33,7 +36,8 @@ struct Tally {
 impl Tally {
     fn count(&mut self, question: Question, said: Said) {
         self.questions += 1;
-        self.add_calls(&said.calls);
+        add(&mut self.calls, &said.calls);
+        add(&mut self.rooms, &said.rooms);
         if let Some(is_joined) = said.joined {
             self.joined[usize::from(is_joined)] += 1;
         }
@@ -51,16 +55,9 @@ impl Tally {
     fn add(&mut self, other: &Self) {
         self.questions += other.questions;
         self.differing += other.differing;
-        self.add_calls(&other.calls);
-        for (sum, count) in self.joined.iter_mut().zip(other.joined) {
-            *sum += count;
-        }
-    }
-
-    fn add_calls(&mut self, calls: &[u64; NUMBERS]) {
-        for (sum, count) in self.calls.iter_mut().zip(calls) {
-            *sum += count;
-        }
+        add(&mut self.calls, &other.calls);
+        add(&mut self.joined, &other.joined);
+        add(&mut self.rooms, &other.rooms);
     }
 
     /// A line of the table, and the shortest question that differs.
@@ -78,6 +75,13 @@ impl Tally {
     }
 }
 
+/// Adds counts to sums.
+fn add(sums: &mut [u64], counts: &[u64]) {
+    for (sum, count) in sums.iter_mut().zip(counts) {
+        *sum += count;
+    }
+}
+
 /// The line above the tallies'.
 fn heading(root: Root) -> String {
     let columns = ["asked", "calls", "differ", "apart", "joined", "good"].into_iter().map(str::to_owned);
@@ -85,29 +89,35 @@ fn heading(root: Root) -> String {
     format!("{:<18}{}", format!("{root:?} questions"), columns.map(|word| format!("{word:>9}")).collect::<String>())
 }
 
-/// How often good trees held each kind and variant.
-struct Met(BTreeMap<(u8, u8), u64>);
+/// How often good trees held each kind and variant, and how often they were printed with each value of each settings byte.
+struct Met {
+    pairs: BTreeMap<(u8, u8), u64>,
+    settings: BTreeMap<(usize, u8), u64>,
+}
 
 impl Met {
     fn none(root: Root) -> Self {
-        Self(cover::pairs(root).map(|pair| (pair, 0)).collect())
+        let pairs = cover::pairs(root).map(|pair| (pair, 0)).collect();
+        Self { pairs, settings: settings::values().map(|value| (value, 0)).collect() }
     }
 
-    fn count(&mut self, question: &Question) {
+    fn count(&mut self, question: &Question, is_printed: bool) {
         for record in cover::records(question) {
-            *self.0.entry((record.kind, record.variant)).or_default() += 1;
+            *self.pairs.entry((record.kind, record.variant)).or_default() += 1;
+        }
+        if is_printed {
+            for value in question.settings.iter().copied().enumerate() {
+                *self.settings.entry(value).or_default() += 1;
+            }
         }
     }
 
-    /// Prints how many pairs were met, which were not, and the counts by kind. Whether all were met.
-    fn print(&self) -> bool {
-        let missing: Vec<_> = self.0.iter().filter(|(_, &count)| count == 0).map(|(pair, _)| pair).collect();
-        println!("pairs of kind and variant met in good trees: {} of {}", self.0.len() - missing.len(), self.0.len());
-        if !missing.is_empty() {
-            println!("    not met: {missing:?}");
-        }
+    /// Prints how many pairs and settings values were met, which were not, and the pairs' counts by kind. Whether all were
+    /// met; settings are only asked for where something was printed.
+    fn print(&self, is_printed: bool) -> bool {
+        let all_pairs = missing("pairs of kind and variant met in good trees", &self.pairs) == 0;
         let mut kinds: BTreeMap<u8, Vec<u64>> = BTreeMap::new();
-        for (&(kind, _), &count) in &self.0 {
+        for (&(kind, _), &count) in &self.pairs {
             kinds.entry(kind).or_default().push(count);
         }
         let shown = kinds.iter().map(|(kind, counts)| {
@@ -115,12 +125,24 @@ impl Met {
             format!("{kind}: {variants} from {least}")
         });
         println!("    kind: variants from the least count: {}", shown.collect::<Vec<_>>().join("; "));
-        missing.is_empty()
+        all_pairs && (!is_printed || missing("settings values met in good trees", &self.settings) == 0)
     }
 }
 
+/// Prints how many of these were met, and which were not; how many were not.
+fn missing<T: std::fmt::Debug>(what: &str, counts: &BTreeMap<T, u64>) -> usize {
+    let missing: Vec<_> = counts.iter().filter(|(_, &count)| count == 0).map(|(one, _)| one).collect();
+    let least = counts.values().min().copied().unwrap_or(0);
+    println!("{what}: {} of {}, each at least {least} times", counts.len() - missing.len(), counts.len());
+    if !missing.is_empty() {
+        println!("    not met: {missing:?}");
+    }
+    missing.len()
+}
+
 /// Asks everything with this root; prints a line for each family, the sum, and the shortest question of each family that
-/// differs. Whether nothing differs and every kind and variant was met in good trees.
+/// differs. Whether nothing differs and every kind and variant, and every value of every settings byte, was met in good
+/// trees.
 pub fn run(root: Root, seed: u64, cases: u64, ask: impl Fn(&Question) -> Said) -> bool {
     let trees = cover::smallest(root, seed, GROWN_TO_CHOOSE);
     let words = limits::near_words();
@@ -132,7 +154,7 @@ pub fn run(root: Root, seed: u64, cases: u64, ask: impl Fn(&Question) -> Said) -
         for question in family.questions.filter(|question| question.root == root) {
             let said = ask(&question);
             if said.is_good {
-                met.count(&question);
+                met.count(&question, said.rooms != [0; 3]);
             }
             tally.count(question, said);
         }
@@ -142,7 +164,12 @@ pub fn run(root: Root, seed: u64, cases: u64, ask: impl Fn(&Question) -> Said) -
         all.add(&tally);
     }
     all.print("all");
-    met.print() && all.differing == 0
+    let [fitting, larger, small] = all.rooms;
+    let is_printed = fitting > 0;
+    if is_printed {
+        println!("prints of good trees into rooms: {fitting} that fit, {larger} larger, {small} a byte too small");
+    }
+    met.print(is_printed) && all.differing == 0
 }
 
 /// All questions, with other roots too. `trees` show every kind and variant.
@@ -173,6 +200,7 @@ fn families<'a>(
         family("in each place", Box::new(short::in_places())),
         family("two in places", Box::new(short::two_in_places())),
         family("deep", Box::new(limits::deep().chain(limits::deep_trees(trees)))),
+        family("levels", Box::new(limits::levels())),
         family("sizes", Box::new(limits::sizes())),
         family("long texts", Box::new(limits::long_texts())),
         family("short texts", Box::new(limits::short_texts())),

@@ -5,6 +5,7 @@ use crate::answer::{Question, Root};
 use crate::read;
 use crate::record::{Record, SIZE};
 use crate::refusal::Reason;
+use crate::settings;
 use crate::tree::{all, declared, function, int, keyword, many, named, plain, rec, var};
 use crate::words;
 
@@ -121,7 +122,15 @@ fn with_bytes_set(
 
 /// The deepest good tree of every nest.
 pub fn deepest() -> impl Iterator<Item = Question> {
-    nests().into_iter().map(|nest| nest.of(nest.first_too_deep() - 1).0)
+    around_deepest().map(|[deepest, _]| deepest)
+}
+
+/// The deepest good tree of every nest, and the one that is a layer deeper.
+pub fn around_deepest() -> impl Iterator<Item = [Question; 2]> {
+    nests().into_iter().map(|nest| {
+        let first = nest.first_too_deep();
+        [first - 1, first].map(|layers| nest.of(layers).0)
+    })
 }
 
 /// Trees of every nest around the greatest depth, whole and with damages in the deepest records.
@@ -130,6 +139,20 @@ pub fn deep() -> impl Iterator<Item = Question> {
         let first = nest.first_too_deep();
         let trees: Vec<_> = (first - 2..first + 2).map(|layers| nest.of(layers)).collect();
         trees.into_iter().flat_map(|(question, inner)| with_bytes_set(question, inner, [0, 1, 47, 255]))
+    })
+}
+
+/// Every nest of a unit at every depth up to the deepest and one beyond it, with a newline wherever one can stand and the
+/// widest indents, of spaces and of tabs.
+pub fn levels() -> impl Iterator<Item = Question> {
+    nests().into_iter().filter(|nest| nest.root == Root::Unit).flat_map(|nest| {
+        (2..=nest.first_too_deep()).flat_map(move |layers| {
+            [1, 2].map(|style| {
+                let mut settings = settings::OPEN;
+                settings[..2].copy_from_slice(&[style, settings::GREATEST[1]]);
+                Question { settings: settings.to_vec(), ..nest.of(layers).0 }
+            })
+        })
     })
 }
 
@@ -294,6 +317,7 @@ pub fn offsets() -> impl Iterator<Item = Question> {
 #[cfg(test)]
 mod tests {
     use super::*;
+    use crate::answer::{answer, Outcome};
     use std::collections::BTreeMap;
 
     /// How often each refusal's number comes up, 0 for none.
@@ -317,6 +341,18 @@ mod tests {
     fn deep_trees_are_refused_for_every_fault_of_a_record() {
         let numbers = numbers(deep());
         assert!([0, 4, 5, 6, 7, 8, 9, 10, 12].iter().all(|number| numbers.contains_key(number)), "{numbers:?}");
+    }
+
+    /// A statement at depth 200 has 197 compounds around it: the unit and the function are the first two records.
+    #[test]
+    fn levels_are_as_wide_as_they_come() {
+        let width = |line: &str| line.len() - line.trim_start_matches([' ', '\t']).len();
+        let texts = levels().filter_map(|question| match answer(&question).text {
+            Outcome::Given(text) => Some(text),
+            _ => None,
+        });
+        let widest = texts.map(|text| text.lines().map(width).max().unwrap_or(0)).max();
+        assert_eq!(widest, Some(197 * usize::from(settings::GREATEST[1])));
     }
 
     #[test]
