@@ -1,0 +1,152 @@
+#!/usr/bin/env python3
+"""print_runs.py [PROGRAM]: runs the program `print` (crates/print) in a folder of its own for each line of the tables below, and compares all that it writes.
+
+Without PROGRAM it is proved and built first. The texts and refusals are document 01's ("Calls", "Texts to match"); none is taken from the program."""
+import os
+import subprocess
+import sys
+import tempfile
+
+import records
+from records import record
+
+ROOT = os.path.dirname(os.path.dirname(os.path.abspath(__file__)))
+
+# Document 01's limits.
+MOST_RECORDS, MOST_NAMES, MOST_LETTERS, DEEPEST, ROOM = 4096, 32768, 255, 200, 65536
+
+TIGHT = bytes(21)
+
+VOID = "31 \n 20 \n 21 \n"
+INT_X = '80 0 1 \n 47 1 \n 42 \n 43 1 0 "x" \n 31 \n 20 \n 21 2'
+FUNCTION = '80 0 1 \n 81 \n 40 0 0 "f" \n' + VOID
+RETURN_MINUS_A = FUNCTION + '60 0 1 \n 68 4 \n 7 3 \n 1 0 0 "a"'
+# A function's body holds statements at depth 4.
+BODY, STATEMENT, EMPTY = "60 0 1 \n", 4, "61"
+
+
+def tree(text, **files):
+    """The files of a tree, and others or other bytes in their place; None for a file that is not there."""
+    tree_rec, names_txt = records.read(text)
+    return {"tree_rec": tree_rec, "names_txt": names_txt, **files}
+
+
+def nested(depth):
+    """A function whose innermost statement, an empty one, is at a depth."""
+    return FUNCTION + BODY * (depth - STATEMENT + 1) + EMPTY
+
+
+def invariant(*lengths):
+    """A unit of `invariant` declarations of names with so many letters, all of them the front of one name."""
+    tree_rec = record(80, 0, len(lengths)) + b"".join(record(47, 4, 0, 0, length) for length in lengths)
+    return {"tree_rec": tree_rec, "names_txt": b"x" * max(lengths), "settings_rec": TIGHT}
+
+
+def empty_statements(count):
+    """A unit of so many records: a function with empty statements."""
+    front = records.read(FUNCTION)[0]
+    statements = count - len(front) // 12 - 1
+    return {"tree_rec": front + record(60, 0, statements) + record(61) * statements, "names_txt": b"f", "settings_rec": TIGHT}
+
+
+def changed(bytes_, at, value):
+    return bytes_[:at] + bytes([value]) + bytes_[at + 1 :]
+
+
+def text_of(letters):
+    """The text of a unit of `invariant` declarations."""
+    return "".join("invariant " + "x" * length + ";" for length in letters)
+
+
+# So many declarations of the longest names fill the room but for a rest, which one more name takes.
+LINE = len("invariant ;")
+FULL = [MOST_LETTERS] * (ROOM // (LINE + MOST_LETTERS) - 1)
+REST = ROOM - len(text_of(FULL))
+LAST = [REST // 2 - LINE, REST - REST // 2 - LINE]
+
+# A newline behind a statement and nowhere else, and the widest indent, in spaces: a line as far in as depth allows.
+WIDE = changed(bytes([2, 16]) + TIGHT[2:], 13, 2)
+COMPOUNDS = DEEPEST - STATEMENT + 1
+WIDE_TEXT = "void f(){" + "{" * (COMPOUNDS - 1) + ";\n" + " " * 16 * (COMPOUNDS - 1) + "}" * COMPOUNDS
+
+RUNS = [
+    ("int x", tree(INT_X), "int x;"),
+    ("a unit of no declarations", tree("80"), ""),
+    ("void f in TIGHT", tree(RETURN_MINUS_A, settings_rec=TIGHT), "void f(){return -a;}"),
+    ("void f in OPEN", tree(RETURN_MINUS_A), "void f() {\n    return -a;\n}\n"),
+    # Files that are missing, or empty.
+    ("no file", {}, "refused 2 at 0\n"),
+    ("no tree.rec", tree(INT_X, tree_rec=None), "refused 2 at 0\n"),
+    ("an empty tree.rec", tree(INT_X, tree_rec=b""), "refused 2 at 0\n"),
+    ("no names.txt", tree(INT_X, names_txt=None), "refused 10 at 3\n"),
+    ("no names.txt, and none needed", tree("80", names_txt=None), ""),
+    ("an empty settings.rec", tree(INT_X, settings_rec=b""), "refused 1 at 0\n"),
+    # A byte more than each file may have; the greatest that it may have.
+    ("settings of 20 bytes", tree(INT_X, settings_rec=TIGHT[1:]), "refused 1 at 0\n"),
+    ("settings of 22 bytes", tree(INT_X, settings_rec=TIGHT + b"\0"), "refused 1 at 0\n"),
+    ("settings of 23 bytes", tree(INT_X, settings_rec=TIGHT + b"\0\0"), "refused 1 at 0\n"),
+    ("4,096 records", empty_statements(MOST_RECORDS), "void f(){" + ";" * (MOST_RECORDS - 7) + "}"),
+    ("4,096 records and a byte", {**empty_statements(MOST_RECORDS), "tree_rec": empty_statements(MOST_RECORDS)["tree_rec"] + b"\0"}, "refused 2 at 0\n"),
+    ("4,097 records", empty_statements(MOST_RECORDS + 1), "refused 2 at 0\n"),
+    ("8,192 records", empty_statements(2 * MOST_RECORDS), "refused 2 at 0\n"),
+    ("32,768 bytes of names", tree(INT_X, names_txt=b"x" * MOST_NAMES), "int x;"),
+    ("32,769 bytes of names", tree(INT_X, names_txt=b"x" * (MOST_NAMES + 1)), "refused 3 at 0\n"),
+    ("65,536 bytes of names", tree(INT_X, names_txt=b"x" * (2 * MOST_NAMES)), "refused 3 at 0\n"),
+    # Each refusal, in document 01's order.
+    ("1: a byte out of range", tree(INT_X, settings_rec=changed(TIGHT, 1, 17)), "refused 1 at 0\n"),
+    ("1 before 2", {"settings_rec": b"\3" + TIGHT[1:]}, "refused 1 at 0\n"),
+    ("2: records that are not whole", tree(INT_X, tree_rec=records.read(INT_X)[0][:-1]), "refused 2 at 0\n"),
+    ("2 before 3", {"names_txt": b"x" * (MOST_NAMES + 1)}, "refused 2 at 0\n"),
+    ("4: no record left", tree('80 0 2 \n 47 4 0 "x"'), "refused 4 at 2\n"),
+    ("5: an expression in a unit", tree('80 0 1 \n 1 0 0 "x"'), "refused 5 at 1\n"),
+    ("5: an expression as root", tree('1 0 0 "x"'), "refused 5 at 0\n"),
+    ("7: a declaration's variant", tree('80 0 1 \n 47 6 0 "x"'), "refused 7 at 1\n"),
+    ("8: a qualifier of nothing", tree("80 0 1 \n 47 5 \n 28"), "refused 8 at 2\n"),
+    ("9: an unused count", tree('80 0 1 \n 47 4 1 "x"'), "refused 9 at 1\n"),
+    ("10: a text beyond the names", tree("80 0 1 \n 47 4 0 0 2", names_txt=b"x"), "refused 10 at 1\n"),
+    ("11: a digit first", tree('80 0 1 \n 47 4 0 "1x"'), "refused 11 at 1\n"),
+    ("11: a fixed word", tree('80 0 1 \n 47 4 0 "if"'), "refused 11 at 1\n"),
+    ("12: records left over", tree(INT_X + "\n 80 \n 80"), "refused 12 at 7\n"),
+    # Limits of depth, names and room.
+    ("depth 200", tree(nested(DEEPEST), settings_rec=TIGHT), "void f()" + "{" * COMPOUNDS + ";" + "}" * COMPOUNDS),
+    ("depth 201", tree(nested(DEEPEST + 1), settings_rec=TIGHT), f"refused 6 at {COMPOUNDS + 7}\n"),
+    ("the widest indent", tree(nested(DEEPEST), settings_rec=WIDE), WIDE_TEXT),
+    ("255 letters", invariant(MOST_LETTERS), text_of([MOST_LETTERS])),
+    ("256 letters", invariant(MOST_LETTERS + 1), "refused 11 at 1\n"),
+    ("a text of 65,536 bytes", invariant(*FULL, *LAST), text_of(FULL + LAST)),
+    ("a text of 65,537 bytes", invariant(*FULL, LAST[0], LAST[1] + 1), f"refused 13 at {ROOM + 1}\n"),
+    ("a text far above the room", invariant(*[MOST_LETTERS] * 4000), f"refused 13 at {4000 * (LINE + MOST_LETTERS)}\n"),
+]
+
+
+def written(program, files):
+    """All that the program writes in a folder with these files."""
+    with tempfile.TemporaryDirectory() as folder:
+        for name, data in files.items():
+            if data is not None:
+                with open(os.path.join(folder, name.replace("_", ".")), "wb") as file:
+                    file.write(data)
+        run = subprocess.run([os.path.join(ROOT, "tools/program.sh"), program], cwd=folder, stdin=subprocess.DEVNULL, capture_output=True, check=False)
+        return run.stdout if run.returncode == 0 and not run.stderr else f"status {run.returncode}: {run.stderr!r}".encode()
+
+
+def shown(data):
+    return repr(data) if len(data) <= 120 else f"{data[:60]!r} .. {data[-40:]!r}, {len(data)} bytes"
+
+
+def main():
+    program = os.path.abspath(sys.argv[1]) if sys.argv[1:] else os.path.join(ROOT, "target/bin/print")
+    if not sys.argv[1:]:
+        subprocess.run(["rt", "check", "print"], cwd=ROOT, check=True)
+    failed = 0
+    for name, files, text in RUNS:
+        found, expected = written(program, files), text.encode()
+        if found != expected:
+            failed += 1
+            print(f"print_runs: {name}\n    expected {shown(expected)}\n    found    {shown(found)}")
+    print(f"print_runs: {len(RUNS) - failed} of {len(RUNS)} runs of the program wrote what they must")
+    sys.exit(failed > 0)
+
+
+if __name__ == "__main__":
+    main()
