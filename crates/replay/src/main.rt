@@ -1,8 +1,13 @@
 // Replays samples of the oracle's answers about expressions and units (oracle/src/sample.rs writes them and has their format): asks the public calls again, and
 // compares answers and every byte of the room. Reading is total: what stands beyond a sample's end reads as nothing, and then the answers differ.
 ghost use mathlib.Core.Path.{_≡_};
+ghost use mathlib.Core.Bool.{_&&_, cond};
+ghost use Prim.Native.Nat.{_+_, min};
+ghost use lib.Dec.{eqb};
 ghost use Rattle.io.specs.Counts.{Counts};
-ghost use Rattle.glsl.specs.Printed.{refusalNumber, value};
+ghost use Rattle.pen.specs.Sheet.{last-place};
+ghost use Rattle.text.specs.Whole.{unitText, exprText};
+ghost use Rattle.glsl.specs.Printed.{Prints, unitOutcome, exprOutcome, refusalNumber, value};
 ghost use Rattle.glsl.specs.Joined.{joinedNumber};
 use glsl::Printed;
 use glsl::Whether;
@@ -60,32 +65,30 @@ fn joined_answer(o: Whether) -> Answer
 }
 
 // Whether an answer is the one that the sample has.
-fn is(o: Answer, number: u8, value: u32) -> bool {
-    o.number == number as u64 && o.value == value as u64
+fn is(o: Answer, number: u8, value: u32) -> bool
+    ensures { λ r. ⌜ r ≡ eqb (o .number) number && eqb (o .value) value ⌝ }
+{
+    (o.number == number as u64) & (o.value == value as u64)
 }
 
 // Where n bytes from `at` on end, at most the greatest number.
-fn end_of(at: u32, n: u32) -> u32 {
+fn end_of(at: u32, n: u32) -> u32
+    ensures { λ r. ⌜ r ≡ min (at + n) last-place ⌝ }
+{
     if n <= 4294967295 - at {
-        at + n
-    } else {
-        4294967295
+        return at + n;
     }
+    4294967295
 }
 
 // The print of a unit or of an expression.
-fn print_into(
-    is_unit: bool,
-    settings: &[u8],
-    tree: &[u8],
-    names: &[u8],
-    room: &mut [u8],
-) -> Printed {
+fn print_into(is_unit: bool, settings: &[u8], tree: &[u8], names: &[u8], room: &mut [u8]) -> Printed
+    ensures { λ r. ⌜ Prints (cond «is_unit» (unitOutcome (now (settings .entry)) (now (tree .entry)) (now (names .entry)) (now (room .entry))) (exprOutcome (now (settings .entry)) (now (tree .entry)) (now (names .entry)) (now (room .entry)))) (cond «is_unit» (unitText (now (settings .entry)) (now (tree .entry)) (now (names .entry))) (exprText (now (settings .entry)) (now (tree .entry)) (now (names .entry)))) (now (room .entry)) (now (room .exit)) r ⌝ }
+{
     if is_unit {
-        glsl::print_unit_into(settings, tree, names, room)
-    } else {
-        glsl::print_expr_into(settings, tree, names, room)
+        return glsl::print_unit_into(settings, tree, names, room);
     }
+    glsl::print_expr_into(settings, tree, names, room)
 }
 
 // Whether the print answers so, and leaves a blank room as it is said to.
