@@ -1,0 +1,17 @@
+pub mod Settled
+pub mod Ladder
+pub mod Strengths
+pub mod Roles
+pub mod Reader
+pub mod Complete
+pub mod Levels
+pub mod Dimensions
+pub mod Callees
+pub mod Specifiers
+pub mod Arguments
+pub mod Literal
+pub mod Settling
+pub mod Faithful
+pub mod Agree
+pub mod Viable
+pub mod Rows
