@@ -45,7 +45,7 @@ unfoldable pub different : List String → Bool
 different [] = true
 different (w ∷ ws) = not (oneOf ws (bytes w)) && different ws
 
-same-self : (s : List ℕ) → T (same s s)
+pub same-self : (s : List ℕ) → T (same s s)
 unfolding same
 same-self [] = tt
 same-self (x ∷ s) = subst (λ (b : Bool). T (b && same s s)) (sym (eq-eqb x x refl)) (same-self s)

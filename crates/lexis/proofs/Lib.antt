@@ -1,0 +1,14 @@
+pub mod Laws
+pub mod One
+pub mod Tests
+pub mod Letters
+pub mod Fixed
+pub mod Symbols
+pub mod Digits
+pub mod Preprocessing
+pub mod Wider
+pub mod Numerals
+pub mod Behind
+pub mod Glsl
+pub mod Examples
+pub mod Listed

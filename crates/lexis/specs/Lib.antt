@@ -1,0 +1,5 @@
+pub mod Keywords
+pub mod Number
+pub mod Division
+pub mod Glsl
+pub mod Preprocessing
