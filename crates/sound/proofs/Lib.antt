@@ -1,0 +1,9 @@
+pub mod Tokens
+pub mod Joined
+pub mod Shows
+pub mod Derived
+pub mod Clear
+pub mod Parts
+pub mod Divided
+pub mod Glsl
+pub mod Sample
