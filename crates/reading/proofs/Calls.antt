@@ -1,0 +1,61 @@
+-- The other calls that print an expression: where print_expr_into answers with a length, and where glsl_print_expr answers with a number that is not negative, the front
+-- of the room is what print_expr hands back. So demand 3 is said of it. Assumes nothing.
+use mathlib.Core.Path.{_≡_, refl, sym, ap, _∙_}
+use mathlib.Core.List.{List}
+use Prim.Native.Nat.{ℕ, zero, suc, _<_, _+_, _*_, _^_}
+use native.Mathlib.Omega.{arith}
+use lib.IntN.{ℤ, pos, negℤ}
+use lib.ListN.{getD, take}
+use Rattle.settings.specs.Settings.{readSettings}
+use Rattle.shapes.specs.Class.{Class}
+use Rattle.accept.specs.declared.Refusal.{Refusal}
+use Rattle.accept.specs.Check.{check}
+use Rattle.accept.specs.Refusal.{number}
+use Rattle.accepted.proofs.Unique.{number-not-zero}
+use Rattle.checks.specs.Answer.{refusalAnswer}
+use Rattle.text.specs.Whole.{exprText}
+use Rattle.glsl.specs.declared.Printed.{Printed}
+use Rattle.glsl.specs.declared.Printed.the-variants.{Text, Refused}
+use Rattle.glsl.specs.Printed.{exprOutcome, Prints, refusalNumber, refusalPlace, roomAfter, printedBits}
+use Rattle.glsl.proofs.Outcome.{outcome-long, part-is}
+use Rattle.reading.specs.Demand3.{Call}
+
+-- no refusal's answer is a length
+minus-something : (m n : ℕ) → (m ≡ 0 → ⊥) → negℤ (pos m) ≡ pos n → ⊥
+minus-something zero n h e = h refl
+minus-something (suc m) n h e = let z : _≡_ {A = ℕ} 0 1 = cc in omega arith
+
+not-length : (x : Refusal) (q n : ℕ) → refusalAnswer x q ≡ pos n → ⊥
+unfolding refusalAnswer
+not-length x q n e = minus-something (number x * 2 ^ 32 + q) n (λ z. number-not-zero x (omega arith)) e
+
+length-is : (o : Printed) (n : ℕ) → printedBits o ≡ pos n → o ≡ Text n
+unfolding printedBits
+length-is (Text m) n e = ap Text (cc)
+length-is (Refused x q) n e = absurd (not-length x q n e)
+
+module _ (settings records names room room′ : List ℕ) (lent : (p : ℕ) → getD records p 0 < 256) where
+  abbrev expected : Printed
+  expected = exprOutcome settings records names room
+
+  abbrev whole : List ℕ
+  whole = exprText settings records names
+
+  -- print_expr_into
+  pub into : (n : ℕ) → Prints expected whole room room′ (Text n) → Call
+  into n p = record {
+    settings = settings;
+    records = records;
+    names = names;
+    room = room;
+    written = take n room′;
+    no = 0;
+    place = 0;
+    lent = lent;
+    promised = (part-is expected whole room (outcome-long (readSettings settings) (check records names Class.expr) whole room) p refl, ap refusalNumber (p .answered), ap refusalPlace (p .answered));
+    accepted = refl;
+  }
+
+  -- glsl_print_expr
+  pub exported : (n : ℕ) (r : ℤ) → (r ≡ printedBits expected) × (room′ ≡ roomAfter expected whole room) → r ≡ pos n → Call
+  exported n r p e = into n (record { answered = sym (length-is expected n (sym (p .0) ∙ e)); left = p .1 })

@@ -1,0 +1,123 @@
+-- The story of `n---k`, from the bytes of records and names: n minus a decremented k, printed in OPEN, is read as itself; printed in TIGHT it is read as n, decremented
+-- afterwards, minus k, and not as itself; and the joined question says so. Assumes nothing.
+use mathlib.Core.Path.{_≡_, refl}
+use mathlib.Core.Bool.{true}
+use mathlib.Core.List.{List, [], _∷_, _++_}
+use Prim.Native.Nat.{ℕ, zero, suc, _<_}
+use native.Mathlib.Omega.{arith}
+use lib.Dec.{ltb}
+use lib.ListN.{getD, replicate}
+use borrow.Author.Tests.{ltb-true}
+use Rattle.words.specs.Bytes.{bytes}
+use Rattle.words.specs.Form.{all}
+use Rattle.words.specs.Symbol.Symbol.{dash, dec-op}
+use Rattle.records.proofs.Made.{plain, named}
+use Rattle.settings.specs.Settings.{TIGHT, OPEN}
+use Rattle.accepted.proofs.Case.{computing as checking}
+use Rattle.text.specs.Token.Token.{name, symbol}
+use Rattle.text.specs.Tree.{UnaryOp, BinaryOp, Expr}
+use Rattle.text.specs.Tree.Expr.{Variable, Unary, Binary, PostDec}
+use Rattle.text.specs.Reading.{itemAt}
+use Rattle.text.specs.Whole.{exprText}
+use Rattle.text.proofs.Computing.{computing}
+use Rattle.grammar.specs.Same.{Same}
+use Rattle.lexis.specs.Glsl.{glsl-word}
+use Rattle.lexis.proofs.Tests.{both}
+use Rattle.lexis.proofs.Glsl.{glsl-between}
+use Rattle.glsl.specs.Printed.{exprOutcome, front, fitted, outcome}
+use Rattle.glsl.specs.Joined.{judged, joinedOutcome}
+use Rattle.glsl.specs.declared.Whether.the-variants.{No, Yes}
+use Rattle.reading.specs.Read.{IsRead}
+use Rattle.reading.specs.Demand3.{Call}
+use Rattle.reading.proofs.Computing.{reading}
+use Rattle.reading.proofs.Demand3.{in-glsl, one-expression}
+use Rattle.reading.proofs.Spelled.{tok}
+use Rattle.reading.proofs.Needed.{as-reader}
+
+-- what is lent: records (kind 8 variant 15 is minus, kind 7 variant 1 a decrement before, kind 15 a decrement afterwards), names, a room of 16 bytes
+abbrev names : List ℕ
+names = bytes "nk"
+
+abbrev minus-decremented : List ℕ
+minus-decremented = plain 8 15 ++ named 1 0 0 ++ plain 7 1 ++ named 1 0 1
+
+abbrev decremented-minus : List ℕ
+decremented-minus = plain 8 15 ++ plain 15 0 ++ named 1 0 0 ++ named 1 0 1
+
+abbrev room : List ℕ
+room = replicate 16 0
+
+-- the two expressions
+abbrev n-minus-decremented-k : Expr
+n-minus-decremented-k = Binary BinaryOp.Sub (Variable (bytes "n")) (Unary UnaryOp.Dec (Variable (bytes "k")))
+
+abbrev n-decremented-minus-k : Expr
+n-decremented-minus-k = Binary BinaryOp.Sub (PostDec (Variable (bytes "n"))) (Variable (bytes "k"))
+
+-- what print_expr hands back
+abbrev handed : (settings records : List ℕ) → List ℕ
+handed settings records = front (exprOutcome settings records names room) (exprText settings records names)
+
+-- records in which every number is below 256 are bytes
+bytes-below : (bs : List ℕ) → all (λ b. ltb b 256) bs ≡ true → (p : ℕ) → getD bs p 0 < 256
+unfolding all
+bytes-below [] h p = omega arith
+bytes-below (b ∷ bs) h zero = ltb-true b 256 (both (ltb b 256) (all (λ b. ltb b 256) bs) h .0)
+bytes-below (b ∷ bs) h (suc p) = bytes-below bs (both (ltb b 256) (all (λ b. ltb b 256) bs) h .1) p
+
+pub record Story : Type 0 where
+  -- the records hold the two expressions
+  pub first : itemAt minus-decremented names 0 .expr .tree ≡ n-minus-decremented-k
+  pub second : itemAt decremented-minus names 0 .expr .tree ≡ n-decremented-minus-k
+  -- OPEN: two texts, and the first is read as itself
+  pub open-text : handed OPEN minus-decremented ≡ bytes "n - --k"
+  pub open-other : handed OPEN decremented-minus ≡ bytes "n-- - k"
+  pub open-read : IsRead glsl-word (bytes "n - --k") n-minus-decremented-k
+  -- TIGHT: one text, which is read as the second and not as the first
+  pub tight-text : handed TIGHT minus-decremented ≡ bytes "n---k"
+  pub tight-other : handed TIGHT decremented-minus ≡ bytes "n---k"
+  pub tight-read : IsRead glsl-word (bytes "n---k") n-decremented-minus-k
+  pub tight-lost : IsRead glsl-word (bytes "n---k") n-minus-decremented-k → ⊥
+  -- and the joined question tells them apart
+  pub joined : joinedOutcome minus-decremented names ≡ Yes
+  pub not-joined : joinedOutcome decremented-minus names ≡ No
+
+tight : IsRead glsl-word (bytes "n---k") n-decremented-minus-k
+unfolding computing reading
+tight = as-reader (tok (name (bytes "n")) ∷ tok (symbol dec-op) ∷ tok (symbol dash) ∷ tok (name (bytes "k")) ∷ []) refl n-decremented-minus-k refl
+
+different : Same n-decremented-minus-k n-minus-decremented-k → ⊥
+unfolding reading
+different s = let z : _≡_ {A = ℕ} 0 1 = cc in omega arith
+
+-- the call in OPEN
+open-call : Call
+unfolding computing checking reading fitted outcome
+open-call = record {
+  settings = OPEN;
+  records = minus-decremented;
+  names = names;
+  room = room;
+  written = bytes "n - --k";
+  no = 0;
+  place = 0;
+  lent = bytes-below minus-decremented refl;
+  promised = (refl, refl, refl);
+  accepted = refl;
+}
+
+pub story : Story
+unfolding computing checking reading fitted outcome judged open-call
+story = record {
+  first = refl;
+  second = refl;
+  open-text = refl;
+  open-other = refl;
+  open-read = in-glsl .read-as open-call (record { spaced = refl; sound = (refl, (refl, refl)) });
+  tight-text = refl;
+  tight-other = refl;
+  tight-read = tight;
+  tight-lost = λ r. different (one-expression glsl-between tight r);
+  joined = refl;
+  not-joined = refl;
+}

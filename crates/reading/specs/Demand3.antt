@@ -1,0 +1,56 @@
+-- Demand 3, about the public call: with spaces around operators the text of a sound expression is read by GLSL 4.60's grammar as that expression and no other.
+-- proofs/Demand3 has it for GLSL's words, for those of the preprocessor, and for any language between the two (`holds`); proofs/Calls brings it to print_expr_into and
+-- glsl_print_expr.
+--
+-- Where each word is defined: what print_expr promises in crate glsl (specs/Printed); the expression that records hold in crate text (specs/Reading); Sound in crate
+-- sound, condition by condition in 01's words; IsRead beside this file, by crates lexis (words, longest match) and grammar (chapter 9); Same in crate grammar.
+-- Assumes nothing.
+use mathlib.Core.Path.{_≡_}
+use mathlib.Core.Bool.{Bool, true}
+use mathlib.Core.List.{List}
+use Prim.Native.Nat.{ℕ, _<_}
+use lib.ListN.{getD}
+use Rattle.settings.specs.Settings.{settingsOf}
+use Rattle.text.specs.Tree.{Expr}
+use Rattle.text.specs.Reading.{itemAt}
+use Rattle.text.specs.Whole.{exprText}
+use Rattle.glsl.specs.Printed.{exprOutcome, refusalNumber, refusalPlace, front}
+use Rattle.lexis.specs.Keywords.{listed}
+use Rattle.grammar.specs.Same.{Same}
+use Rattle.sound.specs.Sound.{Sound}
+use Rattle.reading.specs.Read.{IsRead}
+
+-- a call of print_expr that succeeds: what is lent, and what it hands back
+pub record Call : Type 0 where
+  pub settings : List ℕ
+  pub records : List ℕ
+  pub names : List ℕ
+  pub room : List ℕ
+  pub written : List ℕ
+  pub no : ℕ
+  pub place : ℕ
+  -- records are bytes
+  pub lent : (p : ℕ) → getD records p 0 < 256
+  -- the promise, as print_expr's contract has it
+  pub promised : let o = exprOutcome settings records names room in (written ≡ front o (exprText settings records names)) × (no ≡ refusalNumber o) × (place ≡ refusalPlace o)
+  -- no refusal (their numbers begin with 1)
+  pub accepted : no ≡ 0
+
+-- the expression that its records and names hold
+abbrev pub recorded : Call → Expr
+recorded c = itemAt (c .records) (c .names) 0 .expr .tree
+
+-- it is sound in GLSL, and is printed with spaces around operators
+pub record SpacedAndSound (c : Call) : Type 0 where
+  pub spaced : settingsOf (c .settings) .«spaces_around_binary_ops» ≡ true
+  pub sound : Sound listed (recorded c)
+
+pub record Demand3 (W : List ℕ → Bool) : Type 0 where
+  -- what is written is read as the expression that was printed
+  pub read-as : (c : Call) → SpacedAndSound c → IsRead W (c .written) (recorded c)
+  -- whatever it is read as is that expression
+  pub read-only-as : (c : Call) → SpacedAndSound c → (e : Expr) → IsRead W (c .written) e → Same e (recorded c)
+  -- sound expressions with one text are the same, whatever the settings under which each was printed, if they ask for spaces around operators
+  pub told-apart : (c d : Call) → SpacedAndSound c → SpacedAndSound d → c .written ≡ d .written → Same (recorded c) (recorded d)
+  -- and any text at all is read as one expression at most
+  pub unambiguous : (bytes : List ℕ) (a b : Expr) → IsRead W bytes a → IsRead W bytes b → Same a b
