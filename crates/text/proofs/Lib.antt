@@ -7,3 +7,4 @@ pub mod OnlyLayout
 pub mod Append
 pub mod At
 pub mod ByKind
+pub mod Bare
