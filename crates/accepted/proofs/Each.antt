@@ -1,4 +1,4 @@
--- Every record of an accepted tree is the root of an accepted tree, and sound where it stands: no record is skipped. Assumes nothing.
+-- Every record of an accepted tree is the root of an accepted tree, and fits where it stands: no record is skipped. Assumes nothing.
 use mathlib.Core.Path.{_≡_, subst}
 use mathlib.Core.List.{List, [], _∷_}
 use Prim.Native.Nat.{ℕ, zero, suc, _+_, _<_, _≤_}
@@ -11,10 +11,10 @@ use Rattle.accept.specs.declared.Checked.{Checked}
 use Rattle.accept.specs.declared.Checked.the-variants.{Next}
 use Rattle.accept.specs.Check.{each, childrenOf, node, deepest, check}
 use Rattle.accept.proofs.Accepted.{next-is, bind-next, node-next, node-deep}
-use Rattle.accepted.specs.Sound.{Rooted}
+use Rattle.accepted.specs.Fits.{Rooted}
 use Rattle.accepted.proofs.Places.{Walked, walked, all-taken}
 use Rattle.accepted.proofs.Sizes.{check-next}
-use Rattle.accepted.proofs.Sound.{sound}
+use Rattle.accepted.proofs.Fits.{fits}
 
 -- trees one behind the other, by what is known of one tree
 module _ (f : Class → ℕ → Checked) where
@@ -65,7 +65,7 @@ module _ (records names : List ℕ) where
         class = c;
         next = m;
         accepted = e;
-        sound = sound names (suc left) c (recordAt records i) (n .1);
+        fits = fits names (suc left) c (recordAt records i) (n .1);
         own = advances (suc left) c i m e;
         within = ends (suc left) c i m e;
       }))

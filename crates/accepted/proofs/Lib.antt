@@ -1,6 +1,6 @@
 pub mod Sizes
 pub mod Places
-pub mod Sound
+pub mod Fits
 pub mod Each
 pub mod Unique
 pub mod Front

@@ -9,8 +9,8 @@ use Rattle.records.specs.Record.{textOf}
 use Rattle.shapes.specs.Class.{Class, allowed, takesKind, takesVariant}
 use Rattle.shapes.specs.Shape.{Fields, lastVariant, shapeOf}
 use Rattle.accept.specs.Check.{faultOf}
-use Rattle.accepted.specs.Sound.{CountFits, FieldsFit}
-use Rattle.accepted.proofs.Sound.{sound}
+use Rattle.accepted.specs.Fits.{CountFits, FieldsFit}
+use Rattle.accepted.proofs.Fits.{fits}
 use Rattle.formed.specs.Formed.{Name, Float, Bits}
 
 -- a text that has its form
@@ -41,7 +41,7 @@ text names Fields.float r h = h .1
 
 pub faultless : (names : List ℕ) (left : ℕ) (c : Class) (r : Record) → Bits (r .a) → faultOf names left c r ≡ none → Faultless names c r
 faultless names left c r bits e =
-    let s = sound names left c r e in
+    let s = fits names left c r e in
     record {
       kind = s .kind-taken;
       variant = s .variant-taken;

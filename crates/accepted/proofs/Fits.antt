@@ -1,4 +1,4 @@
--- A record has no fault exactly if it is sound where it stands. Assumes nothing.
+-- A record has no fault exactly if it is fits where it stands. Assumes nothing.
 use mathlib.Core.Path.{_≡_, refl, _∙_, ap, subst}
 use mathlib.Core.Bool.{false, not, and-eq-true-iff as both}
 use mathlib.Core.List.{List}
@@ -15,7 +15,7 @@ use Rattle.records.specs.Record.{textOf}
 use Rattle.shapes.specs.Class.{Class, allowed, takesKind, takesVariant}
 use Rattle.shapes.specs.Shape.{Fields, Count, lastVariant, shapeOf}
 use Rattle.accept.specs.Check.{faults, faultOf, countMissing, countSet, fieldSet, textBeyond, textMisformed}
-use Rattle.accepted.specs.Sound.{CountFits, FieldsFit, Sound}
+use Rattle.accepted.specs.Fits.{CountFits, FieldsFit, Fits}
 use Rattle.accept.proofs.Faults.{fault-is, found-none, no-test-holds}
 
 -- the tests of the count and of the fields, by what the shape says of them
@@ -47,8 +47,8 @@ fields-pass names Fields.name r h = (refl, le-ltb (length names) (r .a + r .b) (
 fields-pass names Fields.float r h = (refl, le-ltb (length names) (r .a + r .b) (h .0), ap not (h .1))
 
 module _ (names : List ℕ) (left : ℕ) (c : Class) (r : Record) where
-  pub sound : faultOf names left c r ≡ none → Sound names left c r
-  sound e =
+  pub fits : faultOf names left c r ≡ none → Fits names left c r
+  fits e =
       let tests = no-test-holds names left c r e in
       let shape = shapeOf (r .kind) (r .variant) in
       let variant = both (takesVariant (allowed c) (r .variant)) (leb (r .variant) (lastVariant (r .kind))) .0 (not-false _ (tests .1 .1 .0)) in
@@ -63,7 +63,7 @@ module _ (names : List ℕ) (left : ℕ) (c : Class) (r : Record) where
         fields-fit = fields-are names (shape .fields) r (unused .1) (tests .1 .1 .1 .1 .1 .0) (tests .1 .1 .1 .1 .1 .1 .0);
       }
 
-  pub no-fault : Sound names left c r → faultOf names left c r ≡ none
+  pub no-fault : Fits names left c r → faultOf names left c r ≡ none
   no-fault s =
       let shape = shapeOf (r .kind) (r .variant) in
       let listed = le-leb (r .variant) (lastVariant (r .kind)) (s .variant-listed) in
@@ -76,5 +76,5 @@ module _ (names : List ℕ) (left : ℕ) (c : Class) (r : Record) where
       ∙ found-none (faults names left c r) (ap not (s .kind-taken), (some-left, (ap not variant, (count .0, (unused, (fields .1, (fields .2, tt)))))))
 
   -- what a and b hold, where the shape of the record's kind and variant is known
-  pub fields-as : (x : Fields) → shapeOf (r .kind) (r .variant) .fields ≡ x → Sound names left c r → FieldsFit names x r
+  pub fields-as : (x : Fields) → shapeOf (r .kind) (r .variant) .fields ≡ x → Fits names left c r → FieldsFit names x r
   fields-as x e s = subst (λ (f : Fields). FieldsFit names f r) e (s .fields-fit)

@@ -27,7 +27,7 @@ FieldsFit names Fields.name r = (r .a + r .b ≤ length names) × (nameForm (tex
 FieldsFit names Fields.float r = (r .a + r .b ≤ length names) × (floatForm (textOf names r) ≡ true)
 
 -- a record where class c is asked for and so many levels are left, from this one on
-pub record Sound (names : List ℕ) (left : ℕ) (c : Class) (r : Record) : Type 0 where
+pub record Fits (names : List ℕ) (left : ℕ) (c : Class) (r : Record) : Type 0 where
   pub kind-taken : takesKind (allowed c) (r .kind) ≡ true
   pub levels : 0 < left
   pub variant-taken : takesVariant (allowed c) (r .variant) ≡ true
@@ -43,6 +43,6 @@ pub record Rooted (records names : List ℕ) (j : ℕ) : Type 0 where
   -- the record behind the tree
   pub next : ℕ
   pub accepted : node records names left class j ≡ Next next
-  pub sound : Sound names left class (recordAt records j)
+  pub fits : Fits names left class (recordAt records j)
   pub own : j < next
   pub within : next ≤ recordCount records
