@@ -1,39 +1,28 @@
-//! Links the static libraries that the environment names. Without them the harness is built all the same, and says
-//! which one it lacks.
+//! Links the static library with the record check, if the environment names one. Without it the harness is built all the same,
+//! and says that it lacks it. (The library with document 01's calls is linked by the binding, rust/glsl_print.)
 
 use std::env;
-use std::fs;
 use std::path::Path;
 
-/// Variables that name a static library, each with the flag that tells the sources of it. A relative path counts from
-/// the repository's root.
-const LIBRARIES: [(&str, &str); 2] = [("CHECK_LIB", "check_lib"), ("GLSL_LIB", "glsl_lib")];
-/// A function that a library can lack, and the flag that tells the sources that it is there.
-const UNITS: (&str, &str) = ("glsl_print_unit", "glsl_units");
+/// The variable that names the library. A relative path counts from the repository's root.
+const VARIABLE: &str = "CHECK_LIB";
+/// The flag that tells the sources that it is linked.
+const FLAG: &str = "check_lib";
 
 fn main() {
-    let root = Path::new(env!("CARGO_MANIFEST_DIR")).join("../..");
-    println!("cargo::rustc-check-cfg=cfg({})", UNITS.1);
-    for (variable, flag) in LIBRARIES {
-        println!("cargo::rerun-if-env-changed={variable}");
-        println!("cargo::rustc-check-cfg=cfg({flag})");
-        let Some(file) = env::var_os(variable) else {
-            continue;
-        };
-        match link(&root.join(file)) {
-            Ok(archive) => {
-                println!("cargo::rustc-cfg={flag}");
-                if holds(&archive, UNITS.0) {
-                    println!("cargo::rustc-cfg={}", UNITS.1);
-                }
-            }
-            Err(message) => println!("cargo::error={variable}: {message}"),
-        }
+    println!("cargo::rerun-if-env-changed={VARIABLE}");
+    println!("cargo::rustc-check-cfg=cfg({FLAG})");
+    let Some(file) = env::var_os(VARIABLE) else {
+        return;
+    };
+    match link(&Path::new(env!("CARGO_MANIFEST_DIR")).join("../..").join(file)) {
+        Ok(()) => println!("cargo::rustc-cfg={FLAG}"),
+        Err(message) => println!("cargo::error={VARIABLE}: {message}"),
     }
 }
 
-/// Tells cargo to link the file; its bytes.
-fn link(file: &Path) -> Result<Vec<u8>, String> {
+/// Tells cargo to link the file.
+fn link(file: &Path) -> Result<(), String> {
     let found = file.canonicalize().map_err(|error| format!("{}: {error}", file.display()))?;
     let (Some(folder), Some(name)) = (found.parent(), found.file_name()) else {
         return Err(format!("{}: no file", file.display()));
@@ -41,11 +30,5 @@ fn link(file: &Path) -> Result<Vec<u8>, String> {
     println!("cargo::rerun-if-changed={}", found.display());
     println!("cargo::rustc-link-search=native={}", folder.display());
     println!("cargo::rustc-link-lib=static:+verbatim={}", name.display());
-    fs::read(&found).map_err(|error| format!("{}: {error}", found.display()))
-}
-
-/// Whether an archive has a function: its names stand in it with a zero behind each.
-fn holds(archive: &[u8], function: &str) -> bool {
-    let name = [function.as_bytes(), &[0]].concat();
-    archive.windows(name.len()).any(|bytes| bytes == name)
+    Ok(())
 }

@@ -1,6 +1,5 @@
-//! The static libraries' functions. A slice is a pointer and a length, and an answer is 64 bits (01, "Calls").
-//!
-//! A function is absent where the harness was built without its library.
+//! The static libraries' functions. An answer is 64 bits (01, "Calls"). A function is absent where the harness was built without
+//! its library.
 
 use oracle::answer::{Question, Root};
 
@@ -14,16 +13,27 @@ pub type Print = fn(&Question, &mut [u8]) -> i64;
 /// by itself.)
 pub const CHECK: Option<Check> = check::LINKED;
 
-/// The print of a root.
-pub fn print(root: Root) -> Option<Print> {
-    match root {
-        Root::Unit => glsl::UNIT,
-        Root::Expr => glsl::EXPR,
-    }
+/// Document 01's calls.
+pub const CALLS: Option<Calls> = glsl::LINKED;
+
+/// Document 01's calls.
+#[derive(Clone, Copy)]
+pub struct Calls {
+    unit: Print,
+    expr: Print,
+    /// The joined question.
+    pub joined: Check,
 }
 
-/// The joined question.
-pub const JOINED: Option<Check> = glsl::JOINED;
+impl Calls {
+    /// The print of a root.
+    pub fn print(&self, root: Root) -> Print {
+        match root {
+            Root::Unit => self.unit,
+            Root::Expr => self.expr,
+        }
+    }
+}
 
 #[cfg(check_lib)]
 mod check {
@@ -50,73 +60,20 @@ mod check {
     pub const LINKED: Option<super::Check> = None;
 }
 
-#[cfg(glsl_lib)]
+/// Through the binding, in its form of 64 bits: that hands on whatever the library says, so that each slip is a difference here.
+#[cfg(feature = "glsl")]
 mod glsl {
-    use super::{Check, Print, Question};
+    use super::{Calls, Question};
+    use glsl_print::calls;
 
-    /// Settings, records, names and the room.
-    type Entry = unsafe extern "C" fn(*const u8, usize, *const u8, usize, *const u8, usize, *mut u8, usize) -> i64;
-
-    extern "C" {
-        #[cfg(glsl_units)]
-        fn glsl_print_unit(
-            settings: *const u8,
-            settings_length: usize,
-            records: *const u8,
-            records_length: usize,
-            names: *const u8,
-            names_length: usize,
-            room: *mut u8,
-            room_length: usize,
-        ) -> i64;
-        fn glsl_print_expr(
-            settings: *const u8,
-            settings_length: usize,
-            records: *const u8,
-            records_length: usize,
-            names: *const u8,
-            names_length: usize,
-            room: *mut u8,
-            room_length: usize,
-        ) -> i64;
-        fn glsl_joined(records: *const u8, records_length: usize, names: *const u8, names_length: usize) -> i64;
-    }
-
-    #[cfg(glsl_units)]
-    pub const UNIT: Option<Print> = Some(|question, room| call(glsl_print_unit, question, room));
-    #[cfg(not(glsl_units))]
-    pub const UNIT: Option<Print> = None;
-
-    pub const EXPR: Option<Print> = Some(|question, room| call(glsl_print_expr, question, room));
-
-    fn call(entry: Entry, question: &Question, room: &mut [u8]) -> i64 {
-        let Question { settings, records, names, .. } = question;
-        // SAFETY: pointers and lengths are those of slices that outlive the call; it writes to the room alone, which is
-        // lent for that.
-        unsafe {
-            entry(
-                settings.as_ptr(),
-                settings.len(),
-                records.as_ptr(),
-                records.len(),
-                names.as_ptr(),
-                names.len(),
-                room.as_mut_ptr(),
-                room.len(),
-            )
-        }
-    }
-
-    pub const JOINED: Option<Check> = Some(|question| {
-        let Question { records, names, .. } = question;
-        // SAFETY: as for the check.
-        unsafe { glsl_joined(records.as_ptr(), records.len(), names.as_ptr(), names.len()) }
+    pub const LINKED: Option<Calls> = Some(Calls {
+        unit: |Question { settings, records, names, .. }, room| calls::print_unit(settings, records, names, room),
+        expr: |Question { settings, records, names, .. }, room| calls::print_expr(settings, records, names, room),
+        joined: |Question { records, names, .. }| calls::joined(records, names),
     });
 }
 
-#[cfg(not(glsl_lib))]
+#[cfg(not(feature = "glsl"))]
 mod glsl {
-    pub const UNIT: Option<super::Print> = None;
-    pub const EXPR: Option<super::Print> = None;
-    pub const JOINED: Option<super::Check> = None;
+    pub const LINKED: Option<super::Calls> = None;
 }

@@ -10,10 +10,14 @@ use oracle::answer::Root;
 use std::process::ExitCode;
 
 const USAGE: &str = "\
-usage: harness check SEED CASES   asks CHECK_LIB and the oracle for the record check
-       harness print SEED CASES   asks GLSL_LIB and the oracle for texts, and whether they are joined
+usage: harness check SEED CASES   asks a library and the oracle for the record check
+       harness print SEED CASES   asks a library and the oracle for texts, and whether they are joined
        harness speed SEED         times the calls there are, beside the Rust module's print, and measures their stacks
 CASES grown trees are asked for; the other questions are the same in every run but for SEED's trees.";
+
+/// Messages where a library was not linked.
+const NO_CHECK: &str = "no library: build the harness with CHECK_LIB set to the path of a static library";
+const NO_CALLS: &str = "no library: build the harness with the feature glsl";
 
 const ROOTS: [Root; 2] = [Root::Expr, Root::Unit];
 
@@ -37,29 +41,21 @@ fn run(arguments: &[&str]) -> Verdict {
     let number = |word: &str| word.parse::<u64>().map_err(|error| format!("{word}: {error}"));
     match *arguments {
         ["check", seed, cases] => {
-            let check = library::CHECK.ok_or_else(|| lacking("CHECK_LIB"))?;
+            let check = library::CHECK.ok_or(NO_CHECK)?;
             let (seed, cases) = (number(seed)?, number(cases)?);
             let verdicts = ROOTS.map(|root| compare::run(root, seed, cases, |question| ask::check(check, question)));
             Ok(verdicts == [true; 2])
         }
         ["print", seed, cases] => {
-            let joined = library::JOINED.ok_or_else(|| lacking("GLSL_LIB"))?;
+            let calls = library::CALLS.ok_or(NO_CALLS)?;
             let (seed, cases) = (number(seed)?, number(cases)?);
             let verdicts = ROOTS.map(|root| {
-                let Some(print) = library::print(root) else {
-                    println!("{root:?} questions are not asked: the library has no such print");
-                    return true;
-                };
-                compare::run(root, seed, cases, |question| ask::print(print, joined, question))
+                let print = calls.print(root);
+                compare::run(root, seed, cases, |question| ask::print(print, calls.joined, question))
             });
             Ok(verdicts == [true; 2])
         }
         ["speed", seed] => speed::run(number(seed)?).map(|()| true).map_err(|refusal| refusal.to_string()),
         _ => Err(USAGE.to_owned()),
     }
-}
-
-/// The message where a library was not linked.
-fn lacking(variable: &str) -> String {
-    format!("no library: build the harness with {variable} set to the path of a static library")
 }

@@ -87,12 +87,13 @@ fn calls(root: Root) -> Result<Vec<Call>, Refusal> {
     if let Some(check) = library::CHECK {
         calls.push(Call::new("check", move |sample, _| check(&sample.tight)));
     }
-    if let Some(print) = library::print(root) {
+    if let Some(linked) = library::CALLS {
+        let print = linked.print(root);
         calls.push(Call::new("print TIGHT", move |sample, room| print(&sample.tight, room)));
         calls.push(Call::new("print OPEN", move |sample, room| print(&sample.open, room)));
-    }
-    if let (Some(joined), Root::Expr) = (library::JOINED, root) {
-        calls.push(Call::new("joined", move |sample, _| joined(&sample.tight)));
+        if root == Root::Expr {
+            calls.push(Call::new("joined", move |sample, _| (linked.joined)(&sample.tight)));
+        }
     }
     for (name, bytes) in [("Rust TIGHT", settings::TIGHT), ("Rust OPEN", settings::OPEN)] {
         let settings = settings::read(&bytes)?;

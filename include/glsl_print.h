@@ -1,0 +1,95 @@
+/* The proved GLSL printer, for callers from C (C99 or later) and C++ (C++11 or later).
+ *
+ * A tree comes as records of 12 bytes with a buffer of names, the layout as 21 bytes of settings; GLSL comes out in a room that the
+ * caller lends. Link target/native/libglsl.a, which `sh tools/staticlib.sh glsl` writes. examples/c/expression.c is a whole program.
+ *
+ * Promised by each call, whatever the bytes that it gets, and proved of the library's code:
+ *   - It returns, with the text or with the first refusal in the order of their numbers (of 4 to 11, the first faulty record's).
+ *     The same bytes always have the same answer.
+ *   - On a refusal no byte of the room is altered.
+ *   - A text stands at the front of the room. The bytes behind it are untouched, so no zero ends it.
+ *   - Slices are lent for the call alone: nothing is kept, and only the room is written. There is no state and no heap, so any
+ *     number of threads may call at the same time, each with a room of its own.
+ *
+ * Owed by the caller:
+ *   - Each pointer is valid for the length behind it, and is not null, even if that length is 0.
+ *   - The room overlaps none of the other slices. (Those may overlap each other.)
+ *   - 256 KiB of stack are left. A tree may be 200 levels deep; what is deeper is refused.
+ */
+#ifndef GLSL_PRINT_H
+#define GLSL_PRINT_H
+
+#include <stddef.h>
+#include <stdint.h>
+
+#ifdef __cplusplus
+extern "C" {
+#endif
+
+/* Prints a unit (its root is a record of kind 80). The answer is the length of the text, or a refusal. */
+int64_t glsl_print_unit(const uint8_t *settings, size_t settings_length,
+                        const uint8_t *records, size_t records_length,
+                        const uint8_t *names, size_t names_length,
+                        uint8_t *room, size_t room_length);
+
+/* Prints an expression (its root is a record of kind 1 to 16). The answer is the length of the text, or a refusal. */
+int64_t glsl_print_expr(const uint8_t *settings, size_t settings_length,
+                        const uint8_t *records, size_t records_length,
+                        const uint8_t *names, size_t names_length,
+                        uint8_t *room, size_t room_length);
+
+/* Asks whether an expression is joined: whether under GLSL_TIGHT some binary + or - has a right operand without brackets whose text
+ * begins with the same sign, as in `a--b` for a - -b. The answer is 1 or 0, or a refusal with a number of 2 to 12. */
+int64_t glsl_joined(const uint8_t *records, size_t records_length, const uint8_t *names, size_t names_length);
+
+/* Why there is no answer. Behind each: the place that goes with it. A record's place is its index, from 0. */
+enum glsl_refusal {
+    GLSL_NOT_REFUSED = 0,
+    GLSL_SETTINGS_OUT_OF_RANGE = 1, /* settings not 21 bytes, or a byte out of range: 0 */
+    GLSL_RECORDS_OUT_OF_SIZE = 2,   /* records empty, not whole, or above 4,096: 0 */
+    GLSL_NAMES_OUT_OF_SIZE = 3,     /* names above 32,768 bytes: 0 */
+    GLSL_RECORD_MISSING = 4,        /* a record is expected, none is left: the number of records */
+    GLSL_KIND_NOT_ALLOWED = 5,      /* kind not allowed there: the record */
+    GLSL_TOO_DEEP = 6,              /* depth above 200 (the root has depth 1): the record */
+    GLSL_VARIANT_OUT_OF_RANGE = 7,  /* variant out of range: the record */
+    GLSL_COUNT_MISSING = 8,         /* count 0 where at least 1 is asked for: the record */
+    GLSL_UNUSED_SET = 9,            /* an unused count, a or b isn't 0: the record */
+    GLSL_TEXT_BEYOND = 10,          /* a text ends beyond the names: the record */
+    GLSL_TEXT_MISFORMED = 11,       /* a text has the wrong form: the record */
+    GLSL_RECORDS_LEFT_OVER = 12,    /* records left over: the first of them */
+    GLSL_ROOM_TOO_SMALL = 13        /* the text is longer than the room: the length needed */
+};
+
+/* An answer is not negative, or minus the sum of the refusal's number times 2^32 and its place. */
+
+/* Whether an answer is a refusal: 1 or 0. */
+static inline int glsl_is_refusal(int64_t answer)
+{
+    return answer < 0;
+}
+
+/* The number of an answer's refusal, as in enum glsl_refusal; GLSL_NOT_REFUSED if it is none. */
+static inline int glsl_refusal_number(int64_t answer)
+{
+    return answer < 0 ? (int)((0 - (uint64_t)answer) >> 32) : GLSL_NOT_REFUSED;
+}
+
+/* The place of an answer's refusal; 0 if it is none. */
+static inline size_t glsl_refusal_place(int64_t answer)
+{
+    return answer < 0 ? (uint32_t)(0 - (uint64_t)answer) : 0;
+}
+
+enum { GLSL_SETTINGS_LENGTH = 21 };
+
+/* Nothing that GLSL does not ask for: no space around operators, no line breaks. */
+static const uint8_t GLSL_TIGHT[GLSL_SETTINGS_LENGTH] = {0, 0, 0, 0, 0, 0, 0, 0, 0, 0, 0, 0, 0, 0, 0, 0, 0, 0, 0, 0, 0};
+
+/* For people: spaces around operators, a line for each statement, indents of four spaces. */
+static const uint8_t GLSL_OPEN[GLSL_SETTINGS_LENGTH] = {2, 4, 1, 1, 1, 1, 1, 1, 2, 2, 2, 2, 1, 2, 2, 0, 1, 1, 1, 1, 1};
+
+#ifdef __cplusplus
+}
+#endif
+
+#endif

@@ -1,0 +1,154 @@
+//! The proved GLSL printer, called from safe Rust.
+//!
+//! A tree comes as records of 12 bytes ([`record`]) with a buffer of names, the layout as 21 bytes of settings ([`TIGHT`], [`OPEN`]
+//! or others); GLSL comes out in a room that the caller lends.
+//!
+//! ```
+//! use glsl_print::{print_expr, record, OPEN};
+//!
+//! // a - -b: a binary minus of the variable a and of the unary minus of the variable b.
+//! let records = [record(8, 15, 0, 0, 0), record(1, 0, 0, 0, 1), record(7, 3, 0, 0, 0), record(1, 0, 0, 1, 1)].concat();
+//! let mut room = [0; 64];
+//! assert_eq!(print_expr(&OPEN, &records, b"ab", &mut room)?, "a - -b");
+//! # Ok::<(), glsl_print::Refused>(())
+//! ```
+//!
+//! Promised by each call, whatever the bytes that it gets, and proved of the library's code (crates/glsl of the repository): it
+//! returns, with the text or with the first [`Refused`]; a refusal alters no byte of the room, and the bytes behind a text are
+//! untouched; nothing is kept, and there is no heap and no state, so any number of threads may call.
+//!
+//! A call takes up to 220,000 bytes of stack (a tree may be 200 levels deep): leave it 256 KiB. Rust's threads have 2 MiB unless
+//! they were asked to have less. The library's code for x86-64 touches its stack page by page as Rust's own does, so a call with
+//! too little of it ends the program at the guard page.
+
+#![deny(unsafe_code)]
+#![deny(unsafe_op_in_unsafe_fn)]
+
+#[allow(unsafe_code)]
+pub mod calls;
+mod refusal;
+
+pub use refusal::{Refusal, Refused};
+
+/// A settings record: how a text is laid out.
+pub type Settings = [u8; 21];
+
+/// Nothing that GLSL does not ask for: no space around operators, no line breaks.
+pub const TIGHT: Settings = [0; 21];
+
+/// For people: spaces around operators, a line for each statement, indents of four spaces.
+pub const OPEN: Settings = [2, 4, 1, 1, 1, 1, 1, 1, 2, 2, 2, 2, 1, 2, 2, 0, 1, 1, 1, 1, 1];
+
+/// The bytes of a record. Those of a tree stand in preorder, one behind the other.
+pub const fn record(kind: u8, variant: u8, count: u16, a: u32, b: u32) -> [u8; 12] {
+    let [count, a, b] = [(count as u32).to_le_bytes(), a.to_le_bytes(), b.to_le_bytes()];
+    [kind, variant, count[0], count[1], a[0], a[1], a[2], a[3], b[0], b[1], b[2], b[3]]
+}
+
+/// Prints a unit at the front of the room, and hands that front back.
+///
+/// # Errors
+///
+/// Any refusal. No byte of the room is altered then.
+pub fn print_unit<'room>(
+    settings: &[u8],
+    records: &[u8],
+    names: &[u8],
+    room: &'room mut [u8],
+) -> Result<&'room str, Refused> {
+    written(calls::print_unit(settings, records, names, room), room)
+}
+
+/// Prints an expression at the front of the room, and hands that front back.
+///
+/// # Errors
+///
+/// Any refusal. No byte of the room is altered then.
+pub fn print_expr<'room>(
+    settings: &[u8],
+    records: &[u8],
+    names: &[u8],
+    room: &'room mut [u8],
+) -> Result<&'room str, Refused> {
+    written(calls::print_expr(settings, records, names, room), room)
+}
+
+/// As [`print_unit`], in a room that grows where the text is longer than it. It never shrinks, so it serves for one print after
+/// another.
+///
+/// # Errors
+///
+/// Any refusal but [`Refusal::RoomTooSmall`].
+pub fn print_unit_growing<'room>(
+    settings: &[u8],
+    records: &[u8],
+    names: &[u8],
+    room: &'room mut Vec<u8>,
+) -> Result<&'room str, Refused> {
+    let answer = growing(room, |room| calls::print_unit(settings, records, names, room));
+    written(answer, room)
+}
+
+/// As [`print_expr`], in a room that grows where the text is longer than it, as for [`print_unit_growing`].
+///
+/// ```
+/// use glsl_print::{print_expr_growing, record, TIGHT};
+///
+/// let mut room = Vec::new();
+/// assert_eq!(print_expr_growing(&TIGHT, &record(1, 0, 0, 0, 5), b"color", &mut room)?, "color");
+/// assert_eq!(room.len(), 5);
+/// # Ok::<(), glsl_print::Refused>(())
+/// ```
+///
+/// # Errors
+///
+/// Any refusal but [`Refusal::RoomTooSmall`].
+pub fn print_expr_growing<'room>(
+    settings: &[u8],
+    records: &[u8],
+    names: &[u8],
+    room: &'room mut Vec<u8>,
+) -> Result<&'room str, Refused> {
+    let answer = growing(room, |room| calls::print_expr(settings, records, names, room));
+    written(answer, room)
+}
+
+/// Asks whether an expression is joined: whether under [`TIGHT`] some binary + or - has a right operand without brackets whose
+/// text begins with the same sign, as in `a--b` for a - -b.
+///
+/// ```
+/// use glsl_print::{joined, record};
+///
+/// let records = [record(8, 15, 0, 0, 0), record(1, 0, 0, 0, 1), record(7, 3, 0, 0, 0), record(1, 0, 0, 1, 1)].concat();
+/// assert!(joined(&records, b"ab")?);
+/// # Ok::<(), glsl_print::Refused>(())
+/// ```
+///
+/// # Errors
+///
+/// A refusal with a number of 2 to 12.
+pub fn joined(records: &[u8], names: &[u8]) -> Result<bool, Refused> {
+    refusal::value(calls::joined(records, names)).map(|value| value == 1)
+}
+
+/// The answer of a print; where the room was too small, of another one with the room as long as the text.
+fn growing(room: &mut Vec<u8>, print: impl Fn(&mut [u8]) -> i64) -> i64 {
+    let answer = print(room);
+    match refusal::value(answer) {
+        Err(Refused { refusal: Refusal::RoomTooSmall, place }) => {
+            room.resize(place, 0);
+            print(room)
+        }
+        _ => answer,
+    }
+}
+
+/// The written front of the room.
+///
+/// No byte is trusted to be ASCII: that a text is (letters, digits and marks of GLSL, spaces, tabs and newlines) no theorem says in
+/// so many words, and to look costs far less than to print. So neither step below can fail with the proved library, and with
+/// another one they panic.
+fn written(answer: i64, room: &[u8]) -> Result<&str, Refused> {
+    let text = &room[..refusal::value(answer)?];
+    Ok(std::str::from_utf8(text).expect("GLSL is ASCII"))
+}

@@ -1,0 +1,183 @@
+//! The calls through the binding: document 01's texts, and each refusal with its place and every byte of the room.
+
+use glsl_print::{
+    joined, print_expr, print_expr_growing, print_unit, print_unit_growing, record, Refusal, Refused, OPEN, TIGHT,
+};
+
+/// The names of every tree here: one letter each, by its offset.
+const NAMES: &[u8] = b"abcdefx1lf";
+
+/// What a room holds before a call.
+const BLANK: u8 = 0xa5;
+
+type Record = [u8; 12];
+
+/// A record without count, a and b.
+fn plain(kind: u8, variant: u8) -> Record {
+    record(kind, variant, 0, 0, 0)
+}
+
+/// A record that has a text of one letter.
+fn named(kind: u8, variant: u8, letter: u8) -> Record {
+    let offset = NAMES.iter().position(|&name| name == letter).expect("a letter of the names");
+    record(kind, variant, 0, offset as u32, 1)
+}
+
+fn variable(letter: u8) -> Record {
+    named(1, 0, letter)
+}
+
+const MINUS: Record = record(8, 15, 0, 0, 0);
+const NEGATIVE: Record = record(7, 3, 0, 0, 0);
+const DECREMENT: Record = record(7, 1, 0, 0, 0);
+const DECREMENT_BEHIND: Record = record(15, 0, 0, 0, 0);
+const TERNARY: Record = record(9, 0, 0, 0, 0);
+const NOT: Record = record(7, 4, 0, 0, 0);
+const ONE: Record = record(2, 0, 0, 1, 0);
+
+/// An expression is printed so in TIGHT and in OPEN, and is joined or not.
+fn expression(records: &[Record], tight: &str, open: &str, is_joined: bool) {
+    let records = records.concat();
+    let mut room = [BLANK; 64];
+    for (settings, text) in [(TIGHT, tight), (OPEN, open)] {
+        assert_eq!(print_expr(&settings, &records, NAMES, &mut room), Ok(text));
+        assert_eq!(print_expr_growing(&settings, &records, NAMES, &mut Vec::new()), Ok(text));
+    }
+    assert_eq!(joined(&records, NAMES), Ok(is_joined), "{tight}");
+}
+
+#[test]
+fn expressions_of_document_01() {
+    let [a, b, c, d, e, f] = [b'a', b'b', b'c', b'd', b'e', b'f'].map(variable);
+    expression(&[MINUS, a, NEGATIVE, b], "a--b", "a - -b", true);
+    expression(&[MINUS, DECREMENT_BEHIND, a, b], "a---b", "a-- - b", false);
+    expression(&[MINUS, a, DECREMENT, b], "a---b", "a - --b", true);
+    expression(&[NEGATIVE, NEGATIVE, a], "-(-a)", "-(-a)", false);
+    expression(&[NEGATIVE, DECREMENT, a], "---a", "---a", false);
+    expression(&[DECREMENT, NEGATIVE, a], "---a", "---a", false);
+    expression(&[MINUS, a, MINUS, b, c], "a-(b-c)", "a - (b - c)", false);
+    expression(&[MINUS, MINUS, a, b, c], "a-b-c", "a - b - c", false);
+    expression(&[plain(14, 0), plain(11, 0), a, ONE], "(a[1])++", "(a[1])++", false);
+    expression(&[record(12, 0, 1, 0, 0), f, plain(16, 0), a, b], "f(a,b)", "f(a, b)", false);
+    expression(&[TERNARY, TERNARY, a, b, c, d, e], "(a?b:c)?d:e", "(a ? b : c) ? d : e", false);
+    expression(&[named(6, 0, b'1')], "1.lf", "1.lf", false);
+    expression(&[record(13, 0, 0, 8, 2), ONE], "1.lf", "1.lf", false);
+    expression(&[record(2, 0, 0, 1 << 31, 0)], "-2147483648", "-2147483648", false);
+}
+
+#[test]
+fn units_of_document_01() {
+    let unit = |settings, records: &[Record], text| {
+        let records = records.concat();
+        assert_eq!(print_unit(settings, &records, NAMES, &mut [BLANK; 64]), Ok(text));
+        assert_eq!(print_unit_growing(settings, &records, NAMES, &mut Vec::new()), Ok(text));
+    };
+    unit(&TIGHT, &[plain(80, 0)], "");
+    unit(&OPEN, &[plain(80, 0)], "");
+    unit(&OPEN, &X, "int x;");
+    let [keyword, body] = [plain(21, 0), record(60, 0, 1, 0, 0)];
+    let head = [record(80, 0, 1, 0, 0), plain(81, 0), named(40, 0, b'f'), plain(31, 0), plain(20, 0), keyword, body];
+    let function = [&head[..], &[plain(68, 4), NEGATIVE, variable(b'a')]].concat();
+    unit(&TIGHT, &function, "void f(){return -a;}");
+    unit(&OPEN, &function, "void f() {\n    return -a;\n}\n");
+}
+
+/// The unit `int x;`.
+const X: [Record; 7] = [
+    record(80, 0, 1, 0, 0),
+    record(47, 1, 0, 0, 0),
+    record(42, 0, 0, 0, 0),
+    record(43, 1, 0, 6, 1),
+    record(31, 0, 0, 0, 0),
+    record(20, 0, 0, 0, 0),
+    record(21, 2, 0, 0, 0),
+];
+
+#[test]
+fn bytes_behind_a_text_are_untouched() {
+    let mut room = [BLANK; 9];
+    assert_eq!(print_unit(&OPEN, &X.concat(), NAMES, &mut room), Ok("int x;"));
+    assert_eq!(room, *b"int x;\xa5\xa5\xa5");
+}
+
+#[test]
+fn a_room_that_is_a_byte_too_small_is_refused() {
+    let mut room = [BLANK; 6];
+    let refused = Refused { refusal: Refusal::RoomTooSmall, place: 6 };
+    assert_eq!(print_unit(&OPEN, &X.concat(), NAMES, &mut room[..5]), Err(refused));
+    assert_eq!(print_unit(&OPEN, &X.concat(), NAMES, &mut []), Err(refused));
+    assert_eq!(room, [BLANK; 6]);
+    assert_eq!(print_unit(&OPEN, &X.concat(), NAMES, &mut room), Ok("int x;"));
+}
+
+#[test]
+fn a_room_grows_as_far_as_needed_and_never_shrinks() {
+    let mut room = vec![BLANK; 2];
+    assert_eq!(print_unit_growing(&OPEN, &X.concat(), NAMES, &mut room), Ok("int x;"));
+    assert_eq!(room, b"int x;");
+    assert_eq!(print_expr_growing(&OPEN, &ONE, NAMES, &mut room), Ok("1"));
+    assert_eq!(room, b"1nt x;");
+}
+
+/// An expression is refused so, by the print and, where that takes no settings, by the joined question.
+fn refused(settings: &[u8], records: &[u8], names: &[u8], refusal: Refusal, place: usize) {
+    let refused = Refused { refusal, place };
+    let mut room = [BLANK; 64];
+    assert_eq!(print_expr(settings, records, names, &mut room), Err(refused));
+    assert_eq!(room, [BLANK; 64], "{refused}");
+    let mut room = vec![BLANK; 3];
+    assert_eq!(print_expr_growing(settings, records, names, &mut room), Err(refused));
+    assert_eq!(room, [BLANK; 3], "{refused}");
+    if refusal != Refusal::SettingsOutOfRange {
+        assert_eq!(joined(records, names), Err(refused));
+    }
+}
+
+#[test]
+fn bad_settings_are_refused() {
+    let a = variable(b'a');
+    let mut beyond = OPEN;
+    beyond[0] = 3;
+    for settings in [&[], &OPEN[..20], &[0; 22], &beyond] {
+        refused(settings, &a, NAMES, Refusal::SettingsOutOfRange, 0);
+        // Before what else is wrong.
+        refused(settings, &[], NAMES, Refusal::SettingsOutOfRange, 0);
+    }
+}
+
+#[test]
+fn bad_sizes_are_refused() {
+    let a = variable(b'a');
+    for records in [vec![], a[..11].to_vec(), a.repeat(4_097)] {
+        refused(&OPEN, &records, NAMES, Refusal::RecordsOutOfSize, 0);
+    }
+    refused(&OPEN, &a, &[b'a'; 32_769], Refusal::NamesOutOfSize, 0);
+    assert_eq!(print_expr(&OPEN, &a, &[b'a'; 32_768], &mut [0; 1]), Ok("a"));
+}
+
+#[test]
+fn bad_records_are_refused_where_they_stand() {
+    let bad = |records: &[Record], refusal, place| refused(&OPEN, &records.concat(), NAMES, refusal, place);
+    let [a, keyword] = [variable(b'a'), plain(21, 6)];
+    bad(&[MINUS, a], Refusal::RecordMissing, 2);
+    bad(&[MINUS, a, plain(80, 0)], Refusal::KindNotAllowed, 2);
+    bad(&[[NOT].repeat(200), vec![a]].concat(), Refusal::TooDeep, 200);
+    bad(&[MINUS, a, plain(7, 6)], Refusal::VariantOutOfRange, 2);
+    bad(&[plain(12, 0), plain(20, 1), keyword, plain(24, 0)], Refusal::CountMissing, 3);
+    bad(&[MINUS, record(4, 0, 0, 1, 0)], Refusal::UnusedSet, 1);
+    bad(&[MINUS, a, record(1, 0, 0, 9, 2)], Refusal::TextBeyond, 2);
+    bad(&[MINUS, variable(b'1')], Refusal::TextMisformed, 1);
+    bad(&[a, a], Refusal::RecordsLeftOver, 1);
+}
+
+#[test]
+fn the_deepest_unit_fits_the_stack_that_is_asked_for() {
+    // A function whose body is compounds in one another: unit, function, compounds, the last at depth 200.
+    let head = [&X[..1], &[plain(81, 0), named(40, 0, b'f'), plain(31, 0), plain(20, 0), plain(21, 0)]].concat();
+    let compounds = [vec![record(60, 0, 1, 0, 0); 197], vec![plain(60, 0)]].concat();
+    let records = [head, compounds].concat().concat();
+    let print = move || print_unit_growing(&TIGHT, &records, NAMES, &mut Vec::new()).map(str::len);
+    let thread = std::thread::Builder::new().stack_size(256 << 10).spawn(print).expect("a thread");
+    let text = "void f()".len() + 2 * 198;
+    assert_eq!(thread.join().expect("it ends"), Ok(text));
+}

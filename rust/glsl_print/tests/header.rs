@@ -1,0 +1,35 @@
+//! The header for C says what this crate says: the same refusals by name, number and meaning, and the same settings.
+
+use glsl_print::{Refusal, Settings, OPEN, TIGHT};
+
+const HEADER: &str = include_str!("../../../include/glsl_print.h");
+
+/// The header's name of a refusal: `RoomTooSmall` is GLSL_ROOM_TOO_SMALL.
+fn name_in_c(refusal: Refusal) -> String {
+    let word =
+        |letter: char| if letter.is_uppercase() { format!("_{letter}") } else { letter.to_uppercase().to_string() };
+    format!("GLSL{}", format!("{refusal:?}").chars().map(word).collect::<String>())
+}
+
+#[test]
+fn refusals_are_the_same() {
+    let lines: Vec<&str> =
+        HEADER.lines().filter(|line| line.trim_start().starts_with("GLSL_") && line.contains(" = ")).collect();
+    assert_eq!(lines.len(), 1 + Refusal::ALL.len(), "none, and each");
+    for refusal in Refusal::ALL {
+        let line = lines[usize::from(refusal.number())];
+        assert!(line.contains(&format!("{} = {}", name_in_c(refusal), refusal.number())), "{line}");
+        assert!(line.contains(&format!("/* {refusal}")), "{line}");
+    }
+}
+
+#[test]
+fn settings_are_the_same() {
+    let array = |name: &str, settings: Settings| {
+        let bytes = settings.map(|byte| byte.to_string()).join(", ");
+        format!("static const uint8_t {name}[GLSL_SETTINGS_LENGTH] = {{{bytes}}};")
+    };
+    for array in [array("GLSL_TIGHT", TIGHT), array("GLSL_OPEN", OPEN)] {
+        assert!(HEADER.contains(&array), "{array}");
+    }
+}

@@ -1,0 +1,199 @@
+//! What a refusal means, and the line that its place points to (document 01, "Calls").
+
+use crate::record::Record;
+use crate::table::{form_of, Class, Holds};
+use crate::walk::{walk, Walk, DEEPEST};
+use crate::write::{Node, Tree};
+
+/// The room of the program `print`, in bytes.
+const ROOM: usize = 65_536;
+
+/// What each refusal means, from number 1 on.
+const MEANINGS: [&str; 13] = [
+    "the settings are not 21 bytes, or one of these is out of range",
+    "there are no records, or no whole ones, or more than 4,096",
+    "the names have more than 32,768 bytes",
+    "a record is expected, and none is left",
+    "no node of this kind may stand here",
+    "the node is too deep",
+    "its kind has no such variant",
+    "it counts no children and must have one at least",
+    "a field that its kind does not use (count, a or b) is not 0",
+    "its text ends beyond the names",
+    "its text has the wrong form",
+    "records are left over behind the tree",
+    "the text is longer than the room",
+];
+
+/// The lines that explain a refusal of a tree.
+pub fn explain(tree: &Tree, number: usize, place: usize) -> Vec<String> {
+    let Some(meaning) = number.checked_sub(1).and_then(|index| MEANINGS.get(index)) else {
+        return vec![format!("there is no refusal {number}; they have the numbers 1 to {}", MEANINGS.len())];
+    };
+    let records: Vec<Record> = tree.nodes.iter().map(|node| node.record).collect();
+    let walk = walk(&records, &tree.names);
+    let mut lines = vec![format!("refusal {number}: {meaning}")];
+    match number {
+        1 => lines.push("place 0 says nothing: the tree was not looked at".into()),
+        2 => lines.push(format!(
+            "place 0 says nothing; here are {} records and {} bytes behind them",
+            records.len(),
+            tree.rest.len()
+        )),
+        3 => lines.push(format!("place 0 says nothing; here are {} bytes of names", tree.names.len())),
+        4 => lines.extend(missing(tree, &walk, place)),
+        13 => lines.push(format!("the text has {place} bytes; the program has room for {ROOM}")),
+        _ => lines.extend(at_node(tree, &walk, number, place)),
+    }
+    lines
+}
+
+/// What is missing at the end of the records.
+fn missing(tree: &Tree, walk: &Walk, place: usize) -> Vec<String> {
+    let mut lines = vec![format!("place {place} is behind the last record")];
+    if let Some(missing) = walk.missing.filter(|_| walk.places.len() == place) {
+        lines.push(format!("expected there: {}", missing.class.called()));
+        lines.extend(above(tree, missing.parent));
+    }
+    lines
+}
+
+/// The line of a node, and what the refusal found there.
+fn at_node(tree: &Tree, walk: &Walk, number: usize, place: usize) -> Vec<String> {
+    let Some(node) = tree.nodes.get(place) else {
+        return vec![format!("place {place} is no record of this tree, which has {}", tree.nodes.len())];
+    };
+    let mut lines = vec![shown(node)];
+    let Some(found) = walk.places.get(place) else { return lines };
+    let Record { kind, variant, count, a, b } = node.record;
+    match number {
+        5 => {
+            lines.push(format!("expected here: {}", found.class.called()));
+            lines.extend(above(tree, found.parent));
+        }
+        6 => lines.push(format!("it is at depth {}, where {DEEPEST} are allowed and the root is at 1", found.depth)),
+        7 => lines.push(format!("it has variant {variant}; possible here: {}", variants(kind, found.class))),
+        8 => lines.extend(form_of(kind, variant).map(|form| format!("it has {}", form.parts_called()))),
+        9 => lines.push(format!("it has count {count}, a {a}, b {b}; it uses {}", used(kind, variant))),
+        10 => lines.push(format!("it begins at {a} and has {b} bytes; the names have {}", tree.names.len())),
+        11 => lines.push(form_of_text(node.record).into()),
+        _ => {}
+    }
+    lines
+}
+
+/// The variants that a kind may have at a place, which are a range.
+fn variants(kind: u8, class: Class) -> String {
+    let possible = || (0..=u8::MAX).filter(|variant| form_of(kind, *variant).is_some() && class.takes(kind, *variant));
+    match (possible().min(), possible().max()) {
+        (Some(least), Some(most)) if least < most => format!("{least} to {most}"),
+        (Some(only), _) => only.to_string(),
+        _ => "none".into(),
+    }
+}
+
+/// The fields that records of a kind and variant use besides these two.
+fn used(kind: u8, variant: u8) -> &'static str {
+    let Some(form) = form_of(kind, variant) else { return "none of them" };
+    match (form.counts().0, form.has_text(variant), form.holds) {
+        (true, true, _) => "all of them",
+        (true, false, _) => "the count alone",
+        (false, true, _) => "a and b",
+        (false, false, Holds::Signed | Holds::Unsigned) => "a alone",
+        (false, false, _) => "none of them",
+    }
+}
+
+/// The line of the node above, with the children that it has.
+fn above(tree: &Tree, parent: Option<usize>) -> Option<String> {
+    let node = tree.nodes.get(parent?)?;
+    let form = form_of(node.record.kind, node.record.variant)?;
+    Some(format!("below {}, where stand: {}", shown(node), form.parts_called()))
+}
+
+/// The form that a record's text must have.
+fn form_of_text(record: Record) -> &'static str {
+    match form_of(record.kind, record.variant).map(|form| form.holds) {
+        Some(Holds::Float) => {
+            "the text of a float has 1 to 400 bytes: digits without a needless 0 in front, then nothing, or a point \
+             and digits of which the last is not 0"
+        }
+        _ => {
+            "a name has 1 to 255 ASCII letters, digits and underscores, no digit first, and is no word that the \
+             printer writes itself (if, vec3, true ..)"
+        }
+    }
+}
+
+/// A node's line; what a raw record is, is added.
+fn shown(node: &Node) -> String {
+    let line = format!("line {}: {}", node.line, node.words);
+    match form_of(node.record.kind, node.record.variant) {
+        Some(form) if node.words.starts_with(|first: char| first.is_ascii_digit()) => {
+            format!("{line} ({})", form.head(node.record.variant))
+        }
+        _ => line,
+    }
+}
+
+#[cfg(test)]
+mod tests {
+    use super::*;
+    use crate::write::tree_of;
+
+    fn explained(text: &str, number: usize, place: usize) -> String {
+        explain(&tree_of(text).expect("it is well-formed"), number, place).join("\n")
+    }
+
+    #[test]
+    fn a_name_of_the_wrong_form() {
+        let said = explained("# a comment\nPostInc\n  Variable \"if\"  # no name\n", 11, 1);
+        assert!(said.contains("\nline 3: Variable \"if\"\na name has"), "{said}");
+    }
+
+    #[test]
+    fn a_node_that_may_not_stand_there() {
+        let said = explained("80 0 1\n  1 \"x\"\n", 5, 1);
+        let end = "line 2: 1 \"x\" (Variable)\nexpected here: Declaration or Function\n\
+                   below line 1: 80 0 1 (Unit), where stand: any number of: Declaration or Function";
+        assert!(said.ends_with(end), "{said}");
+    }
+
+    #[test]
+    fn a_record_that_is_missing() {
+        let said = explained("8 14\n  Variable \"x\"\n", 4, 2);
+        let end = "expected there: an expression\n\
+                   below line 1: 8 14 (Binary Add), where stand: an expression; an expression";
+        assert!(said.ends_with(end), "{said}");
+    }
+
+    #[test]
+    fn fields_that_do_not_fit() {
+        assert!(explained("7 6\n  IntConst 1", 7, 0).ends_with("line 1: 7 6\nit has variant 6; possible here: 0 to 5"));
+        assert!(explained("Unit\n  47 2\n    29 3", 7, 2).ends_with("it has variant 3; possible here: 19 to 21"));
+        assert!(explained("14 1\n  IntConst 1", 7, 0).ends_with("it has variant 1; possible here: 0"));
+        assert!(explained("Unit\n  47 5\n    28", 8, 2).contains("it has one or more of: Storage, "));
+        assert!(explained("2 0 0 5 6", 9, 0).ends_with("it has count 0, a 5, b 6; it uses a alone"));
+        assert!(explained("80 0 0 5", 9, 0).ends_with("it uses the count alone"));
+        assert!(explained("1 0 0 5 6", 10, 0).ends_with("it begins at 5 and has 6 bytes; the names have 0"));
+    }
+
+    #[test]
+    fn places_that_are_no_record() {
+        assert!(explained("Unit", 13, 70000).contains("70000 bytes"));
+        assert!(explained("Unit", 3, 0).contains("0 bytes of names"));
+        assert!(explained("Unit", 7, 1).contains("which has 1"));
+        assert!(explained("Unit", 14, 0).contains("1 to 13"));
+        assert!(explained("Unit", 0, 0).contains("1 to 13"));
+    }
+
+    #[test]
+    fn no_number_or_place_is_too_much() {
+        let tree = tree_of("Unit\n1\n2").expect("it is well-formed");
+        for number in (0..20).chain([usize::MAX]) {
+            for place in (0..5).chain([usize::MAX]) {
+                assert!(!explain(&tree, number, place).is_empty());
+            }
+        }
+    }
+}
