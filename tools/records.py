@@ -1,9 +1,7 @@
-#!/usr/bin/env python3
-"""records.py FILE FOLDER: makes tree.rec and names.txt in FOLDER of the records in FILE; records.py --check FILE FOLDER: says whether they are those.
+"""Raw records as text, for the scripts here that make trees (print_runs.py, glslang.py). Trees for people are read and written by rust/tree.
 
-A line of FILE is a record: kind, variant, count, a, b (document 01, "Tree records"). Numbers that are left out at its end are 0. A quoted text stands for a and
-b: it is put behind the names, once, and its offset and length are written. Spaces in front show the tree to a reader; what follows a # is a comment."""
-import os
+A line is a record: kind, variant, count, a, b (document 01, "Tree records"). Numbers that are left out at its end are 0. A quoted text stands for a and b: it is
+put behind the names, once, and its offset and length are written. Spaces in front show the tree to a reader; what follows a # is a comment."""
 import re
 import struct
 import sys
@@ -39,26 +37,3 @@ def read(text):
             sys.exit(f"line {number}: a record has five fields: {line}")
         records.append(record(*fields))
     return b"".join(records), names
-
-
-def main():
-    check = sys.argv[1:2] == ["--check"]
-    arguments = sys.argv[2:] if check else sys.argv[1:]
-    if len(arguments) != 2:
-        sys.exit(__doc__)
-    source, folder = arguments
-    with open(source, encoding="ascii") as file:
-        made = read(file.read())
-    for name, data in zip(("tree.rec", "names.txt"), made):
-        path = os.path.join(folder, name)
-        if not check:
-            with open(path, "wb") as file:
-                file.write(data)
-            continue
-        with open(path, "rb") as file:
-            if file.read() != data:
-                sys.exit(f"{path} is not what tools/records.py makes of {source}")
-
-
-if __name__ == "__main__":
-    main()

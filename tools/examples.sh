@@ -1,0 +1,46 @@
+#!/bin/sh
+# Prints each examples/NAME.txt by the program `print` under OPEN and TIGHT and compares with NAME.open.glsl and NAME.tight.glsl; with --write it writes these.
+# The sample that the program has in its own folder (crates/print/data) must be what examples/shader.txt makes.
+set -eu
+root=$(cd "$(dirname "$0")/.." && pwd -P)
+folder=$(mktemp -d)
+trap 'rm -rf "$folder"' EXIT
+
+# The text of the tree in the folder, which must be printed.
+printed() {
+    (cd "$folder" && "$root/tools/program.sh" "$root/target/bin/print" >text)
+    case $(head -n 1 "$folder/text") in
+    "refused "*)
+        echo "examples: $1 is $(cat "$folder/text")"
+        exit 1
+        ;;
+    esac
+}
+
+# Stores the text that was printed, or compares it with the stored one.
+settle() {
+    if [ "$write" = yes ]; then
+        cp "$folder/text" "$1"
+    elif ! cmp "$folder/text" "$1"; then
+        echo "examples: $1 is not what is printed"
+        exit 1
+    fi
+}
+
+write=no
+[ "${1:-}" != --write ] || write=yes
+"$root/tools/tree.sh" check "$root/examples/shader.txt" "$root/crates/print/data"
+(cd "$root" && rt check print >/dev/null)
+count=0
+for example in "$root"/examples/*.txt; do
+    "$root/tools/tree.sh" write "$example" "$folder"
+    rm -f "$folder/settings.rec"
+    printed "$example"
+    settle "${example%.txt}.open.glsl"
+    # TIGHT is 21 bytes of 0.
+    head -c 21 /dev/zero >"$folder/settings.rec"
+    printed "$example"
+    settle "${example%.txt}.tight.glsl"
+    count=$((count + 1))
+done
+echo "examples: $count trees, each printed in OPEN and TIGHT"
