@@ -1,5 +1,5 @@
--- Why each condition of soundness is there: for each an expression that meets all others, whose text is read as another expression or as none. All of them
--- computed, in OPEN. Assumes nothing.
+-- Why the conditions of soundness are there: for each but one an expression that breaks it, formed as the record check promises, whose text in OPEN is read as another expression or as
+-- none; all computed. A struct in a callee has no such example: chapter 9 reads it, and ours leaves it out. Assumes nothing.
 use mathlib.Core.Path.{_≡_, refl, subst}
 use mathlib.Core.Bool.{true}
 use mathlib.Core.List.{List, [], _∷_}

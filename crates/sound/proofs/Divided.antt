@@ -6,7 +6,7 @@ use mathlib.Core.List.{List, [], _∷_, _++_, append-assoc, append-nil}
 use Prim.Native.Nat.{ℕ, _≤_, _<_, _^_}
 use native.Mathlib.Omega.{arith}
 use Prim.Native.Char.{code}
-use lib.Dec.{leb, ltb, eqb}
+use lib.Dec.{leb, ltb}
 use lib.ListN.{length}
 use borrow.Author.Tests.{leb-true, ltb-true, lt-leb, not-true}
 use Rattle.words.specs.Bytes.{bytes}
@@ -38,6 +38,8 @@ use Rattle.grammar.proofs.Ladder.{ladder}
 use Rattle.grammar.proofs.Strengths.{same-strength}
 use Rattle.lexis.specs.Division.{Divides, begins-with}
 use Rattle.lexis.specs.Division.Divides.{at-end}
+use Rattle.lexis.proofs.Tests.{both}
+use Rattle.lexis.proofs.Letters.{digit-name-byte}
 use Rattle.lexis.proofs.Laws.{symbol-lengthens, opens, Vocabulary}
 use Rattle.sound.specs.Sound.{Unmixed, numeric, Sound, SoundCallee, SoundArguments, SoundType, SoundArray, SoundDimension, SoundBase}
 use Rattle.sound.proofs.Clear.{Clear, Ends, ends-wider, ends-clear, point-clear, opening, unary-clear, field-clear, sign-clear, false-true}
@@ -64,10 +66,6 @@ tail-false e n h = rw (n, h) refl
 loose : (o : BinaryOp) → leb (binary-precedence o) 2 ≡ false
 loose o = lt-leb (binary-precedence o) 2 (omega (arith, same-strength o, ladder o .0))
 
-both-true : (a b : Bool) → a && b ≡ true → (a ≡ true) × (b ≡ true)
-both-true true b h = (refl, h)
-both-true false b h = false-true h
-
 -- a nameByte opens
 name-opens : (f : ℕ → Bool) → ((b : ℕ) → f b ≡ true → nameByte b ≡ true) → (s : Settings) (cs : List Command) → Begins s f cs → Begins s opening cs
 name-opens f h s cs b = record { first = λ x. go (text s cs x) (b .first x) }
@@ -77,15 +75,7 @@ name-opens f h s cs b = record { first = λ x. go (text s cs x) (b .first x) }
     go (b ∷ bs) e = rw (h b e) refl
 
 letter-opens : (b : ℕ) → nameByte b && not (digit b) ≡ true → nameByte b ≡ true
-letter-opens b h = both-true (nameByte b) (not (digit b)) h .0
-
-middle-true : (a c : Bool) → a || true || c ≡ true
-middle-true true c = refl
-middle-true false c = refl
-
-digit-opens : (b : ℕ) → digit b ≡ true → nameByte b ≡ true
-unfolding nameByte
-digit-opens b h = rw h (middle-true (letter b) (eqb b (code "_")))
+letter-opens b h = both (nameByte b) (not (digit b)) h .0
 
 module _ (listed : List ℕ → Bool) {L : List ℕ → Token → Type 0} {W : List ℕ → Bool} {proper : Token → Bool} (law : Vocabulary spell proper L W) (ok : Admits listed proper) (s : Settings) (on : flag s spaces-around-binary-ops ≡ true) where
   -- the judgements, for these settings and this vocabulary
@@ -121,11 +111,11 @@ module _ (listed : List ℕ → Bool) {L : List ℕ → Token → Type 0} {W : L
   unfolding Formed-expr Sound show-expr precedence opens
   opens-expr no-expr f t h = absurd t
   opens-expr (Variable n) f t h = name-token n f t
-  opens-expr (IntConst n) f t h = rw t (word-opens (Token.int (magnitude n)) (whole n f t) digit-opens)
-  opens-expr (UIntConst n) f t h = word-opens (Token.uint n) (ok .uints n f) digit-opens
+  opens-expr (IntConst n) f t h = rw t (word-opens (Token.int (magnitude n)) (whole n f t) digit-name-byte)
+  opens-expr (UIntConst n) f t h = word-opens (Token.uint n) (ok .uints n f) digit-name-byte
   opens-expr (BoolConst b) f t h = word-opens (Token.word (bool-word b)) (ok .bools b) letter-opens
-  opens-expr (FloatConst x) f t h = word-opens (Token.float x) (ok .floats x f) digit-opens
-  opens-expr (DoubleConst x) f t h = word-opens (Token.double x) (ok .doubles x f) digit-opens
+  opens-expr (FloatConst x) f t h = word-opens (Token.float x) (ok .floats x f) digit-name-byte
+  opens-expr (DoubleConst x) f t h = word-opens (Token.double x) (ok .doubles x f) digit-name-byte
   opens-expr (Unary op e) f t h = absurd (omega arith)
   opens-expr (Binary op l r) f t h = absurd (omega (arith, same-strength op, ladder op .0))
   opens-expr (Ternary c a b) f t h = absurd (omega arith)
@@ -164,7 +154,7 @@ module _ (listed : List ℕ → Bool) {L : List ℕ → Token → Type 0} {W : L
   operand-clear : (op : UnaryOp) (e : Expr) → Formed-expr e → Sound listed e → Unmixed op e → (bare : Bool) → leb (precedence e) 3 && not (doubles op (unary-op e)) ≡ bare → (x : FormattingState) (rest : List ℕ)
       → Clear (Token.symbol (unary-symbol op)) (text s (bare-if bare (show-expr e)) x ++ rest)
   operand-clear op e f t m true h x rest =
-      let g = both-true (leb (precedence e) 3) (not (doubles op (unary-op e))) h
+      let g = both (leb (precedence e) 3) (not (doubles op (unary-op e))) h
       in bare-clear op e f t m (not-true (doubles op (unary-op e)) (g .1)) (leb-true (precedence e) 3 (g .0)) x rest
   operand-clear op e f t m false h x rest = unary-clear op (text s (bare-if false (show-expr e)) x ++ rest) (before (operand-begins {s = s} {cs = show-expr e} false (λ q. false-true q)) x rest)
 

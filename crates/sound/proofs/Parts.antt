@@ -85,11 +85,6 @@ unfolding text written spell symbolText nameByte letter digit
 operand-begins true h = h refl
 operand-begins false h = record { first = λ x. refl }
 
--- with a symbol
-pub begins-symbol : {s : Settings} {f : ℕ → Bool} (y : Symbol) → begins-with f (bytes (symbolText y)) ≡ true → Begins s f (a-symbol y)
-unfolding text written spell
-begins-symbol y h = record { first = λ x. rw (append-nil (bytes (symbolText y))) h }
-
 module _ {L : List ℕ → Token → Type 0} {W : List ℕ → Bool} {proper : Token → Bool} (law : Vocabulary spell proper L W) where
   -- a proper token with a text behind it that does not make it longer
   pub taken : (t : Token) → proper t ≡ true → {bs : List ℕ} {ts : List Token} → Clear t bs → Divides L W bs ts → Divides L W (spell t ++ bs) (t ∷ ts)
