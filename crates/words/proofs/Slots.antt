@@ -14,7 +14,7 @@ use Rattle.words.specs.Bytes.{bytes}
 use Rattle.words.specs.Letter.{flaw}
 use Rattle.words.specs.Word.{wordText, qualifierWords, jumpWords, boolWords, loneWords, otherWords}
 use Rattle.words.specs.Symbol.{symbolText, unaryOperators, binaryOperators, assignmentOperators}
-use Rattle.words.specs.Slot.{slotCount, slot, noWord, rowIn, each, slots}
+use Rattle.words.specs.Slot.{slotCount, slot, noWord, slotsOf, rowIn, each, slots}
 use Rattle.words.specs.Table.{typeKeywords, fixedWords, operators, texts, rows, table, textAt}
 use Rattle.words.specs.Form.{same, oneOf}
 use Rattle.words.proofs.Listed.{words-count, first-slot, first-flaw}
@@ -41,12 +41,12 @@ slots-length = refl
 
 -- in a table t
 module _ (t : List ℕ) (is : t ≡ table) where
-  pub slot-here : (h : ℕ) → h < slotCount → getD t (first-slot + h) 0 ≡ rowIn fixedWords h 0
+  pub slot-here : (h : ℕ) → h < slotCount → getD t (first-slot + h) 0 ≡ rowIn (slotsOf fixedWords) h 0
   unfolding table slots
   slot-here h l =
       ap (λ (l : List ℕ). getD l (first-slot + h) 0) is ∙ behind (rows texts) _ first-slot h rows-length
       ∙ List·getD-append (slots fixedWords) _ 0 h (omega (arith, slots-length))
-      ∙ each-at (λ h. rowIn fixedWords h 0) 0 slotCount h l ∙ ap (λ (n : ℕ). rowIn fixedWords n 0) (omega arith)
+      ∙ each-at (λ h. rowIn (slotsOf fixedWords) h 0) 0 slotCount h l ∙ ap (λ (n : ℕ). rowIn (slotsOf fixedWords) n 0) (omega arith)
 
   pub flaw-here : (x : ℕ) → x < 256 → getD t (first-flaw + x) 0 ≡ flaw x
   unfolding table
@@ -56,29 +56,33 @@ module _ (t : List ℕ) (is : t ≡ table) where
       ∙ behind (rows texts) _ first-slot (slotCount + x) rows-length ∙ behind (slots fixedWords) _ slotCount x slots-length
       ∙ each-at flaw 0 256 x l ∙ ap flaw (omega arith)
 
--- a row behind these words' is that of the empty slot
-row-behind : (ws : List String) (h k : ℕ) → k + length ws ≤ rowIn ws h k → rowIn ws h k ≡ noWord
+-- a row behind those of the words with these slots is that of the empty slot
+row-behind : (ss : List ℕ) (h k : ℕ) → k + length ss ≤ rowIn ss h k → rowIn ss h k ≡ noWord
 unfolding rowIn
 row-behind [] h k l = refl
-row-behind (w ∷ ws) h k l = by (eqb (slot (bytes w)) h) l (row-behind ws h (suc k))
+row-behind (s ∷ ss) h k l = by (eqb s h) l (row-behind ss h (suc k))
   where
-    by : (b : Bool) → k + suc (length ws) ≤ cond b k (rowIn ws h (suc k)) → (suc k + length ws ≤ rowIn ws h (suc k) → rowIn ws h (suc k) ≡ noWord)
-        → cond b k (rowIn ws h (suc k)) ≡ noWord
+    by : (b : Bool) → k + suc (length ss) ≤ cond b k (rowIn ss h (suc k)) → (suc k + length ss ≤ rowIn ss h (suc k) → rowIn ss h (suc k) ≡ noWord)
+        → cond b k (rowIn ss h (suc k)) ≡ noWord
     by true l later = absurd (omega arith)
     by false l later = later (omega arith)
 
 -- the word of its slot is s
 isFound : List ℕ → Bool
-isFound s = same (textAt (rowIn fixedWords (slot s) 0)) s
+isFound s = same (textAt (rowIn (slotsOf fixedWords) (slot s) 0)) s
 
 -- each fixed word has a slot of its own
 words-found : T (everyWord isFound fixedWords)
-unfolding everyWord isFound same rowIn textAt texts fixedWords typeKeywords otherWords qualifierWords jumpWords boolWords loneWords wordText
+unfolding everyWord isFound same slotsOf rowIn textAt texts fixedWords typeKeywords otherWords qualifierWords jumpWords boolWords loneWords wordText
 words-found = tt
 
 fixed-count : length fixedWords ≡ words-count
 unfolding fixedWords typeKeywords otherWords qualifierWords jumpWords boolWords loneWords
 fixed-count = refl
+
+slots-count : length (slotsOf fixedWords) ≡ words-count
+unfolding slotsOf fixedWords typeKeywords otherWords qualifierWords jumpWords boolWords loneWords
+slots-count = refl
 
 no-word-short : length (textAt noWord) ≡ 1
 unfolding textAt texts fixedWords typeKeywords otherWords qualifierWords jumpWords boolWords loneWords wordText operators symbolText unaryOperators binaryOperators assignmentOperators
@@ -90,12 +94,12 @@ is-fixed k s h e =
     let l : k < length fixedWords = omega (arith, fixed-count) in
     is-one fixedWords s k l (ap bytes (sym (List·getD-append fixedWords operators "" k l)) ∙ e)
 
-pub found : (s : List ℕ) (k : ℕ) → 2 ≤ length s → k ≡ rowIn fixedWords (slot s) 0 → same (textAt k) s ≡ oneOf fixedWords s
+pub found : (s : List ℕ) (k : ℕ) → 2 ≤ length s → k ≡ rowIn (slotsOf fixedWords) (slot s) 0 → same (textAt k) s ≡ oneOf fixedWords s
 unfolding isFound
 found s k long is = ap (λ (k : ℕ). same (textAt k) s) is ∙ by (isFound s) refl
   where
     row : ℕ
-    row = rowIn fixedWords (slot s) 0
+    row = rowIn (slotsOf fixedWords) (slot s) 0
 
     by : (b : Bool) → same (textAt row) s ≡ b → same (textAt row) s ≡ oneOf fixedWords s
     by false e = e ∙ sym (none-of isFound fixedWords s words-found e)
@@ -105,4 +109,4 @@ found s k long is = ap (λ (k : ℕ). same (textAt k) s) is ∙ by (isFound s) r
         ∙ sym
         (is-true (oneOf fixedWords s)
         (split row words-count (λ h. is-fixed row s h q)
-        (λ h. let z = ap length (sym q ∙ ap textAt (row-behind fixedWords (slot s) 0 (omega (arith, fixed-count)))) in absurd (omega (arith, z, no-word-short)))))
+        (λ h. let z = ap length (sym q ∙ ap textAt (row-behind (slotsOf fixedWords) (slot s) 0 (omega (arith, slots-count)))) in absurd (omega (arith, z, no-word-short)))))

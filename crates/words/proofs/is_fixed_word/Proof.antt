@@ -5,7 +5,7 @@ use Prim.Native.Nat.{ℕ}
 use native.Mathlib.Omega.{arith}
 use Rattle.words.specs.Form as Form
 use Rattle.words.specs.Table.{fixedWords}
-use Rattle.words.specs.Slot.{rowIn}
+use Rattle.words.specs.Slot.{slotsOf, rowIn}
 use Rattle.words.proofs.Rule.{none-short}
 use Rattle.words.proofs.Slots.{slot-here, found}
 use borrow.Author.Needs.{needs}
@@ -40,7 +40,7 @@ returns-2 c =
     let at = c .before .before .before .before .slot-of .ensures in
     c .same .ensures ∙ ap (λ (u : List ℕ). Form.same u s) (c .before .row .ensures)
     ∙ found s _ (c .before .before .before .before .before .before .if1 .left)
-    (c .before .before .wide .ensures .0 ∙ slot-here _ (start .pre) _ (omega (arith, at)) ∙ ap (λ (h : ℕ). rowIn fixedWords h 0) at)
+    (c .before .before .wide .ensures .0 ∙ slot-here _ (start .pre) _ (omega (arith, at)) ∙ ap (λ (h : ℕ). rowIn (slotsOf fixedWords) h 0) at)
 
 pub is-fixed-word-spec : {M : Type 1} → statement M
 is-fixed-word-spec =

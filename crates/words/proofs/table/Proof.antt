@@ -3,13 +3,13 @@ use mathlib.Core.Path.{refl}
 use Rattle.words.specs.Word.{wordText, qualifierWords, jumpWords, boolWords, loneWords, otherWords}
 use Rattle.words.specs.Symbol.{symbolText, unaryOperators, binaryOperators, assignmentOperators}
 use Rattle.words.specs.Letter.{digit, letter, nameByte, flaw}
-use Rattle.words.specs.Slot.{rowIn, each, slots}
+use Rattle.words.specs.Slot.{slotsOf, rowIn, each, slots}
 use Rattle.words.specs.Table.{typeKeywords, fixedWords, operators, texts, table}
 use Rattle.words.proofs.table.Statement.{statement}
 use Rattle.words.proofs.table.Tie as tie
 
 returns : tie.Need-returns
-unfolding table slots rowIn each flaw nameByte letter digit texts fixedWords typeKeywords otherWords qualifierWords jumpWords boolWords loneWords wordText operators symbolText unaryOperators binaryOperators assignmentOperators
+unfolding table slots slotsOf rowIn each flaw nameByte letter digit texts fixedWords typeKeywords otherWords qualifierWords jumpWords boolWords loneWords wordText operators symbolText unaryOperators binaryOperators assignmentOperators
 returns c = refl
 
 pub table-spec : {M : Type 1} → statement M
