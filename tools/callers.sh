@@ -36,9 +36,9 @@ else
 fi
 if cargo --version >/dev/null 2>&1; then
     cd rust
-    cargo test --offline --quiet
+    cargo test --offline --quiet -p glsl_print
     cargo run --offline --quiet -p glsl_print --example expression | diff "$scratch/rust" -
     echo "callers: Rust, tried"
 else
-    echo "callers: no cargo, so the crates for Rust are not tried"
+    echo "callers: no cargo, so the crate for Rust is not tried"
 fi

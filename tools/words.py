@@ -1,24 +1,24 @@
 #!/usr/bin/env python3
-"""Writes what follows from the word list in crates/words/specs (Table, Word, Symbol):
+"""Writes what follows from the word list in crates/words/specs (Keyword, Word, Symbol), in crates/word_table:
 
     src/rows.rt             the table, and where its sections begin
     proofs/Listed           how many of each there are
     proofs/Sections         one law a section, which ties the rows to the list
 
 Run it from the repository's root after a change of the list; `words.py --check` only says whether the files are what it would write. Two words with one slot are an
-error: `words.py --slot` then finds other factors for `slot` (here and in specs/Slot). Nothing here is trusted: the check proves all of it against the list."""
+error: `words.py --slot` then finds other factors for `slot` (here and in word_table's specs/Slot). Nothing here is trusted: the check proves all of it against the list."""
 import itertools
 import re
 import sys
 
-CRATE = 'crates/words/'
-WIDEST, SLOTS, FACTORS = 23, 512, (16, 16, 1, 1, 64)  # as specs/Table and specs/Slot have them
+LISTS, CRATE = 'crates/words/', 'crates/word_table/'
+WIDEST, SLOTS, FACTORS = 23, 512, (16, 16, 1, 1, 64)  # as word_table's specs/Table and specs/Slot have them
 
 
 # ---- the list
 
 def spec(name):
-    return open(CRATE + 'specs/' + name + '.antt', encoding='utf-8').read()
+    return open(LISTS + 'specs/' + name + '.antt', encoding='utf-8').read()
 
 
 def listed(file, name):
@@ -33,7 +33,7 @@ def text_of(file, function):
 
 
 # name in code and in laws, file of specs, list, the type of its entries, what makes a text of one (nothing: it is one)
-SECTIONS = [('type', 'Table', 'typeKeywords', 'String', ''),
+SECTIONS = [('type', 'Keyword', 'typeKeywords', 'String', ''),
             ('qualifier', 'Word', 'qualifierWords', 'Word', 'wordText'),
             ('jump', 'Word', 'jumpWords', 'Word', 'wordText'),
             ('bool', 'Word', 'boolWords', 'Word', 'wordText'),
@@ -107,7 +107,7 @@ def numbers(ns, width=32):
 
 
 first_slot = len(rows) * (WIDEST + 1)
-write('src/rows.rt', f'''// The table's bytes, and where its sections begin. Written by tools/words.py from the word list in specs/.
+write('src/rows.rt', f'''// The table's bytes, and where its sections begin. Written by tools/words.py from the word list in crates/words/specs.
 pub type Words = [u8; {first_slot + SLOTS + 256}];
 
 // The row at which each section begins, by variant from there on, and the number of rows. (The lone words between them are looked for, and written as they are.)
@@ -163,13 +163,14 @@ use mathlib.Core.List.{map}
 use Prim.Native.Nat.{ℕ, _+_, _<_}
 use native.Mathlib.Nat.{zero-add}
 use lib.ListN.{getD}
 use Rattle.words.specs.Bytes.{bytes}
 use Rattle.words.specs.Word.{Word, wordText, qualifierWords, jumpWords, boolWords, loneWords, otherWords}
 use Rattle.words.specs.Symbol.{Symbol, symbolText, unaryOperators, binaryOperators, assignmentOperators}
-use Rattle.words.specs.Table.{typeKeywords, fixedWords, operators, texts, textAt}
+use Rattle.words.specs.Keyword.{typeKeywords, fixedWords}
 use Rattle.words.specs.Form.{same, oneOf}
-use Rattle.words.proofs.Places.{section-text, section}
-use Rattle.words.proofs.Rule.{different, rows-apart}
+use Rattle.word_table.specs.Table.{operators, texts, textAt}
+use Rattle.word_table.proofs.Places.{section-text, section}
+use Rattle.word_table.proofs.Rule.{different, rows-apart}
 ''',
     *(row_law(*s) for s in SECTIONS),
     f'''pub word-apart : (j k : ℕ) → j < {words_count} → k < {words_count} → textAt j ≡ textAt k → j ≡ k

@@ -2,5 +2,3 @@ pub mod Faults
 pub mod Accepted
 pub mod Codes
 pub mod Rows
-pub mod Walk
-pub mod Open

@@ -1,16 +1,16 @@
-// The record check: whatever bytes come, they are the tree that a root asks for, or there is one numbered refusal at one place.
-// The tests of a record stand in the paper's order; what is tested goes by the table of crate shapes, which is made once and lent down.
+// The refusals of the record check, and its tests of a record by itself, in the paper's order. (Crate walk takes all records; specs/Check defines the whole.)
+// What is tested goes by the table of crate shapes, which is made once and lent down.
 ghost use mathlib.Core.Path.{_≡_};
 ghost use mathlib.Core.Bool.{_&&_};
 ghost use Prim.Native.Nat.{_+_, _^_, _≤_, _<_};
 ghost use lib.Dec.{leb};
-ghost use Rattle.words.specs.Table as WordTable;
-ghost use Rattle.shapes.specs.Class.{Class, takesVariant};
+ghost use Rattle.word_table.specs.Table as WordTable;
+ghost use Rattle.shapes.specs.Class.{takesVariant};
 ghost use Rattle.shapes.specs.Table as ShapeTable;
 ghost use Rattle.accept.specs.Check as Check;
 use records::Record;
 use shapes::rows::Shapes;
-use words::rows::Words;
+use word_table::rows::Words;
 
 // The paper's refusals, in its order (specs/Refusal has their numbers). The check gives all but the first and the last.
 pub enum Refusal {
@@ -35,24 +35,8 @@ pub enum Checked {
     Refused(Refusal, usize),
 }
 
-// The classes of the two roots, by number.
-const EXPR: u8 = 0;
-
-const UNIT: u8 = 26;
-
 // The code of a row's fields from which on they are a text.
 const FIRST_TEXT: u8 = 2;
-
-// The parts that a row of the table has room for.
-const PARTS: usize = 4;
-
-const DEEPEST: usize = 200;
-
-const RECORD: usize = 12;
-
-const MOST_RECORD_BYTES: usize = 49152;
-
-const MOST_NAME_BYTES: usize = 32768;
 
 // Is the count 0 where there must be one?
 fn count_missing(t: &Shapes, row: usize, n: u16) -> bool
@@ -120,7 +104,7 @@ fn text_misformed(t: &Shapes, words: &Words, row: usize, text: &[u8]) -> bool
         // integer
         1 => false,
         // name
-        2 => !words::name_form(words, text),
+        2 => !names::name_form(words, text),
         // float
         _ => !words::float_form(text),
     }
@@ -158,7 +142,7 @@ fn variant_fits(t: &Shapes, c: u8, k: u8, v: u8) -> bool
 }
 
 // Record i by itself, where class c is asked for and `left` levels are left.
-fn alone(
+pub fn alone(
     t: &Shapes,
     words: &Words,
     records: &[u8],
@@ -194,132 +178,4 @@ pub fn times(part: u8, n: u16) -> usize
         return 1;
     }
     n as usize
-}
-
-// The tree whose root is record i.
-fn node(
-    t: &Shapes,
-    words: &Words,
-    records: &[u8],
-    names: &[u8],
-    i: usize,
-    c: u8,
-    left: usize,
-) -> Checked
-    requires { ⌜ (ShapeTable.Shaped (now t)) × (now words ≡ WordTable.table) ⌝ }
-    ensures { λ r. ⌜ r ≡ Check.node (now (records .entry)) (now (names .entry)) left (ShapeTable.classOf c) i ⌝ }
-{
-    let mut at = i;
-    match alone(t, words, records, names, i, c, left) {
-        Checked::Next(next) => {
-            at = next;
-        }
-        Checked::Refused(x, p) => {
-            return Checked::Refused(x, p);
-        }
-    }
-    let r = records::record_at(records, i);
-    let row = shapes::row_of(t, r.kind, r.variant);
-    let mut j: usize = 0;
-    while j < PARTS {
-        let part = shapes::cell(t, row + 2 + j);
-        if part == 0 {
-            return Checked::Next(at);
-        }
-        // a part's byte is its class too: classes are read modulo 32
-        match run(
-            t,
-            words,
-            records,
-            names,
-            at,
-            part,
-            times(part, r.count),
-            left - 1,
-        ) {
-            Checked::Next(next) => {
-                at = next;
-            }
-            Checked::Refused(x, p) => {
-                return Checked::Refused(x, p);
-            }
-        }
-        j += 1;
-    }
-    Checked::Next(at)
-}
-
-// n trees of class c, one behind the other.
-fn run(
-    t: &Shapes,
-    words: &Words,
-    records: &[u8],
-    names: &[u8],
-    i: usize,
-    c: u8,
-    n: usize,
-    left: usize,
-) -> Checked
-    requires { ⌜ (ShapeTable.Shaped (now t)) × (now words ≡ WordTable.table) ⌝ }
-    ensures { λ r. ⌜ r ≡ Check.run (now (records .entry)) (now (names .entry)) left (ShapeTable.classOf c) n i ⌝ }
-{
-    let mut at = i;
-    let mut k: usize = 0;
-    while k < n {
-        match node(t, words, records, names, at, c, left) {
-            Checked::Next(next) => {
-                at = next;
-            }
-            Checked::Refused(x, p) => {
-                return Checked::Refused(x, p);
-            }
-        }
-        k += 1;
-    }
-    Checked::Next(at)
-}
-
-// Are the records none, not whole, or too many?
-fn records_out_of_size(records: &[u8]) -> bool
-    ensures { λ r. ⌜ r ≡ Check.recordsOutOfSize (now (records .entry)) ⌝ }
-{
-    let n = records.len();
-    (n == 0) | (n % RECORD != 0) | (MOST_RECORD_BYTES < n)
-}
-
-// The whole, for a root of class c.
-fn check(records: &[u8], names: &[u8], c: u8) -> Checked
-    ensures { λ r. ⌜ r ≡ Check.check (now (records .entry)) (now (names .entry)) (ShapeTable.classOf c) ⌝ }
-{
-    if records_out_of_size(records) {
-        return Checked::Refused(Refusal::RecordsOutOfSize, 0);
-    }
-    if MOST_NAME_BYTES < names.len() {
-        return Checked::Refused(Refusal::NamesOutOfSize, 0);
-    }
-    let t = shapes::table();
-    let words = words::table();
-    match node(&t, &words, records, names, 0, c, DEEPEST) {
-        Checked::Next(next) => {
-            if next == records::whole_records(records) {
-                return Checked::Next(next);
-            }
-            Checked::Refused(Refusal::RecordsLeftOver, next)
-        }
-        Checked::Refused(x, p) => Checked::Refused(x, p),
-    }
-}
-
-// Are the records a unit? Its root is of kind 80.
-pub fn check_unit(records: &[u8], names: &[u8]) -> Checked
-    ensures { λ r. ⌜ r ≡ Check.check (now (records .entry)) (now (names .entry)) Class.unit ⌝ }
-{
-    check(records, names, UNIT)
-}
-
-// Are the records an expression? Its root is of kind 1 to 16.
-pub fn check_expr(records: &[u8], names: &[u8]) -> Checked
-    ensures { λ r. ⌜ r ≡ Check.check (now (records .entry)) (now (names .entry)) Class.expr ⌝ }
-{
-    check(records, names, EXPR)
 }

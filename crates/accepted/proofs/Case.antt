@@ -2,7 +2,7 @@
 use mathlib.Core.List.{List}
 use Prim.Native.Nat.{ℕ}
 use Rattle.words.specs.Word.{wordText, qualifierWords, jumpWords, boolWords, loneWords, otherWords}
-use Rattle.words.specs.Table.{typeKeywords, fixedWords}
+use Rattle.words.specs.Keyword.{typeKeywords, fixedWords}
 use Rattle.words.specs.Form.{digit, letter, nameByte, all, same, oneOf, nameForm, digits, behindDigits, wholePart, fraction, nothingOrFraction, floatForm}
 use Rattle.records.specs.Record.{recordIn, recordCount, recordAt, part}
 use Rattle.shapes.specs.Class.{Class, allowed}

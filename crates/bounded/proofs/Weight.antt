@@ -12,8 +12,9 @@ use lib.ListN.{length, getD, length-append, length-replicate, List·getD-append,
 use Rattle.words.specs.Bytes.{bytes}
 use Rattle.words.specs.Word.{Word, StorageQualifier, PrecisionQualifier, InterpolationQualifier, wordText, otherWords}
 use Rattle.words.specs.Symbol.{Symbol, symbolText}
-use Rattle.words.specs.Table.{typeKeywords, fixedWords, operators, texts, textAt, widest}
-use Rattle.words.proofs.Places.{text-fits}
+use Rattle.words.specs.Keyword.{typeKeywords, fixedWords}
+use Rattle.word_table.specs.Table.{operators, texts, textAt, widest}
+use Rattle.word_table.proofs.Places.{text-fits}
 use Rattle.records.proofs.Laws.{split}
 use Rattle.decimal.specs.Decimal.{decimal}
 use Rattle.settings.specs.declared.Settings.{Settings}

@@ -55,7 +55,7 @@ fn answer_of(o: Checked) -> i64
 pub extern "C" fn accept_unit(records: &[u8], names: &[u8]) -> i64
     ensures { λ r. ⌜ r ≡ answer (check (now (records .entry)) (now (names .entry)) Class.unit) ⌝ }
 {
-    answer_of(accept::check_unit(records, names))
+    answer_of(walk::check_unit(records, names))
 }
 
 // The record check of an expression.
@@ -63,5 +63,5 @@ pub extern "C" fn accept_unit(records: &[u8], names: &[u8]) -> i64
 pub extern "C" fn accept_expr(records: &[u8], names: &[u8]) -> i64
     ensures { λ r. ⌜ r ≡ answer (check (now (records .entry)) (now (names .entry)) Class.expr) ⌝ }
 {
-    answer_of(accept::check_expr(records, names))
+    answer_of(walk::check_expr(records, names))
 }

@@ -7,7 +7,7 @@ use native.Mathlib.Omega.{arith}
 use borrow.Author.Tests.{lt-ltb, ne-eqb}
 use Rattle.records.proofs.Laws.{split}
 use Rattle.records.specs.Record.{part}
-use Rattle.words.specs.Table.{typeKeywords}
+use Rattle.words.specs.Keyword.{typeKeywords}
 use Rattle.shapes.specs.Shape.{rows, lastVariant}
 use Rattle.shapes.specs.Class.Class.{expr, type, base, array, dimension, field, identifier, qualifier, spec, precision, layout-id, full-type}
 use Rattle.text.specs.Tree.{Identifier, TypeSpecifier, TypeSpecifiers, TypeSpecifierNonArray, ArraySpecifier, ArraySpecifierDimension, StructFieldSpecifier, StructFieldSpecifiers, ArrayedIdentifier, ArrayedIdentifiers, TypeQualifier, TypeQualifierSpec, LayoutQualifier, LayoutQualifierSpec, FullySpecifiedType}

@@ -1,7 +1,7 @@
 // The public calls (01, "Calls"), and the C functions over them. (The call that hands out a name is `records::name`.)
 ghost use mathlib.Core.Path.{_≡_};
 ghost use Prim.Native.Nat.{_<_, _^_};
-ghost use Rattle.words.specs.Table as Table;
+ghost use Rattle.word_table.specs.Table as Table;
 ghost use Rattle.settings.specs.State.{fresh};
 ghost use Rattle.accept.specs.Check.{check};
 ghost use Rattle.text.specs.Pen.{text};
@@ -16,7 +16,7 @@ use accept::Refusal;
 use pen::Pen;
 use settings::Settings;
 use settings::SettingsRead;
-use words::rows::Words;
+use word_table::rows::Words;
 
 // What is printed. The functions within take it, so that each is written and proved once.
 enum Root {
@@ -46,8 +46,8 @@ fn check_root(root: Root, records: &[u8], names: &[u8]) -> Checked
     ensures { λ r. ⌜ r ≡ check (now (records .entry)) (now (names .entry)) (rootClass root) ⌝ }
 {
     match root {
-        Root::Unit => accept::check_unit(records, names),
-        Root::Expr => accept::check_expr(records, names),
+        Root::Unit => walk::check_unit(records, names),
+        Root::Expr => walk::check_expr(records, names),
     }
 }
 
@@ -76,7 +76,7 @@ fn put(root: Root, s: Settings, records: &[u8], names: &[u8], room: &mut [u8]) -
     requires { ⌜ Free s (rootCommands root s (now records) (now names)) start ⌝ }
     ensures { λ r. let t = text s (rootCommands root s (now (records .entry)) (now (names .entry))) fresh in ⌜ Prints (fitted t (now (room .entry))) t (now (room .entry)) (now (room .exit)) r ⌝ }
 {
-    let t = words::table();
+    let t = word_table::table();
     let pen = start(s);
     let measured = show_root(root, s, &t, records, names, &mut room[..0], pen);
     let n = measured.at as usize;
@@ -246,7 +246,7 @@ pub enum Whether {
 pub fn joined(records: &[u8], names: &[u8]) -> Whether
     ensures { λ r. ⌜ r ≡ joinedOutcome (now (records .entry)) (now (names .entry)) ⌝ }
 {
-    match accept::check_expr(records, names) {
+    match walk::check_expr(records, names) {
         Checked::Refused(x, p) => Whether::Refused(x, p),
         Checked::Next(_) => {
             if joined::any_joined(records) {

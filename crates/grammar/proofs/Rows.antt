@@ -7,7 +7,7 @@ use Prim.Native.String.{String}
 use Rattle.words.specs.Bytes.{bytes}
 use Rattle.words.specs.Symbol.{Symbol}
 use Rattle.words.specs.Symbol.Symbol.{left-paren, right-paren, left-bracket, right-bracket, dot, comma, colon, question, dash, equal, inc-op}
-use Rattle.words.specs.Table.{typeKeywords}
+use Rattle.words.specs.Keyword.{typeKeywords}
 use Rattle.text.specs.Token.{Token, spell}
 use Rattle.text.specs.Token.Token.{name, int, symbol}
 use Rattle.text.specs.Tree.{UnaryOp, BinaryOp, AssignmentOp, Expr, Exprs}

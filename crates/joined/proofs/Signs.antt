@@ -13,9 +13,8 @@ use borrow.Author.Tests.{ne-eqb, le-leb}
 use Rattle.words.specs.Bytes.{bytes}
 use Rattle.words.specs.Word.{Word, wordText}
 use Rattle.words.specs.Symbol.{Symbol, symbolText}
-use Rattle.words.specs.Table.{typeKeywords}
+use Rattle.words.specs.Keyword.{typeKeywords, fixedWords}
 use Rattle.words.specs.Form.{between, digit, letter, nameByte, all, oneOf, nameForm, digits, wholePart, behindDigits, nothingOrFraction, floatForm, longest-name, longest-float}
-use Rattle.words.specs.Table.{fixedWords}
 use Rattle.decimal.specs.Decimal.{decimal, negative, magnitude}
 use Rattle.decimal.proofs.Laws.{length-positive, all-digits}
 use Rattle.records.proofs.Laws.{same-answer}

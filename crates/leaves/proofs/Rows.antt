@@ -10,8 +10,9 @@ use borrow.Author.Tests.{le-ltb, ne-eqb}
 use Rattle.words.specs.Bytes.{bytes}
 use Rattle.words.specs.Word.{Word, wordText, qualifierWords, jumpWords, boolWords}
 use Rattle.words.specs.Symbol.{Symbol, symbolText, unaryOperators, binaryOperators, assignmentOperators}
-use Rattle.words.specs.Table.{typeKeywords, textAt}
-use Rattle.words.proofs.Sections.{type-row, qualifier-row, jump-row, bool-row, unary-row, binary-row, assignment-row}
+use Rattle.words.specs.Keyword.{typeKeywords}
+use Rattle.word_table.specs.Table.{textAt}
+use Rattle.word_table.proofs.Sections.{type-row, qualifier-row, jump-row, bool-row, unary-row, binary-row, assignment-row}
 use Rattle.records.proofs.Laws.{split}
 use Rattle.settings.specs.declared.Settings.{Settings}
 use Rattle.text.specs.Token.{Token, spell}

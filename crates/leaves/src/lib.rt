@@ -5,7 +5,7 @@ ghost use mathlib.Core.List.{[]};
 ghost use mathlib.Core.Option.{none, some};
 ghost use Prim.Native.Nat.{_+_, _≤_, min};
 ghost use lib.Dec.{eqb};
-ghost use Rattle.words.specs.Table as Table;
+ghost use Rattle.word_table.specs.Table as Table;
 ghost use Rattle.words.specs.Symbol.{Symbol};
 ghost use Rattle.records.specs.Record.{recordAt, part};
 ghost use Rattle.settings.specs.declared.Settings.{Settings};
@@ -20,8 +20,8 @@ ghost use Rattle.leaves.specs.Qualifier.{qualifierWord};
 ghost use Rattle.leaves.specs.Jump.{jumpWord};
 use pen::Pen;
 use settings::Settings;
-use words::rows;
-use words::rows::Words;
+use word_table::rows;
+use word_table::rows::Words;
 
 // The last variant of each, which stands for all behind it.
 const LAST_UNARY: u8 = 5;
@@ -82,7 +82,7 @@ pub fn show_binary_op(pen: Pen, s: Settings, t: &Words, room: &mut [u8], v: u8) 
     requires { ⌜ now t ≡ Table.table ⌝ }
     ensures { λ r. ⌜ Ran s (write-binary-op (binary-symbol (binaryOp v))) (now (room .entry)) pen (now (room .exit)) r ⌝ }
 {
-    let text = words::row(t, section_row(rows::BINARY, LAST_BINARY, v));
+    let text = word_table::row(t, section_row(rows::BINARY, LAST_BINARY, v));
     pen.write_binary_op(room, s, text)
 }
 
@@ -90,7 +90,7 @@ pub fn show_assignment_op(pen: Pen, s: Settings, t: &Words, room: &mut [u8], v: 
     requires { ⌜ now t ≡ Table.table ⌝ }
     ensures { λ r. ⌜ Ran s (write-binary-op (assignment-symbol (assignmentOp v))) (now (room .entry)) pen (now (room .exit)) r ⌝ }
 {
-    let text = words::row(t, section_row(rows::ASSIGNMENT, LAST_ASSIGNMENT, v));
+    let text = word_table::row(t, section_row(rows::ASSIGNMENT, LAST_ASSIGNMENT, v));
     pen.write_binary_op(room, s, text)
 }
 

@@ -8,7 +8,7 @@ use Rattle.words.specs.Letter.{digit, letter, nameByte}
 use Rattle.words.specs.Form.{all, same, oneOf, digits, behindDigits, nameForm}
 use Rattle.words.specs.Word.{wordText, qualifierWords, jumpWords, boolWords, loneWords, otherWords}
 use Rattle.words.specs.Symbol.{symbolText, unaryOperators, binaryOperators, assignmentOperators}
-use Rattle.words.specs.Table.{typeKeywords, fixedWords}
+use Rattle.words.specs.Keyword.{typeKeywords, fixedWords}
 use Rattle.words.proofs.Search.{everyWord}
 use Rattle.text.specs.Token.Token.{name}
 use Rattle.lexis.specs.Keywords.{keywords, vulkan-keywords, reserved-words, listed-words, listed}

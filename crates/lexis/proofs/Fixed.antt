@@ -14,10 +14,10 @@ use Rattle.words.specs.Word.{Word, StorageQualifier, PrecisionQualifier, Interp
 use Rattle.words.specs.Word.Word.{storage, precision-qualifier, interpolation, subroutine, layout, invariant, precise, continue, break, discard, return, precision, struct, if, else, switch, case, default, while, «do», for}
 use Rattle.words.specs.Symbol.{Symbol, symbolText, unaryOperators, binaryOperators, assignmentOperators}
 use Rattle.words.specs.Symbol.Symbol.{left-paren, right-paren, left-bracket, right-bracket, left-brace, right-brace, dot, comma, colon, semicolon, question, inc-op, dec-op, plus, dash, bang, tilde, or-op, xor-op, and-op, vertical-bar, caret, ampersand, eq-op, ne-op, left-angle, right-angle, le-op, ge-op, left-op, right-op, star, slash, percent, equal, mul-assign, div-assign, mod-assign, add-assign, sub-assign, left-assign, right-assign, and-assign, xor-assign, or-assign}
-use Rattle.words.specs.Table.{typeKeywords}
+use Rattle.words.specs.Keyword.{typeKeywords}
 use Rattle.words.proofs.Search.{same-eq, apart}
-use Rattle.words.proofs.Rule.{same-self}
-use Rattle.words.proofs.Sections.{type-row, word-apart}
+use Rattle.word_table.proofs.Rule.{same-self}
+use Rattle.word_table.proofs.Sections.{type-row, word-apart}
 use Rattle.text.specs.Token.{Token, spell}
 use Rattle.text.specs.Token.Token.{name, int, uint, float, double, word, symbol}
 use Rattle.lexis.specs.Division.{begins-with}

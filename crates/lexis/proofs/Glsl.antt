@@ -10,7 +10,7 @@ use lib.Dec.{eqb}
 use borrow.Author.Tests.{not-true}
 use Rattle.words.specs.Letter.{between, digit, nameByte}
 use Rattle.words.specs.Form.{longest-name, all, oneOf, nameForm}
-use Rattle.words.specs.Table.{fixedWords}
+use Rattle.words.specs.Keyword.{fixedWords}
 use Rattle.text.specs.Token.{Token, spell}
 use Rattle.text.specs.Token.Token.{name, int, uint, float, double, word, symbol}
 use Rattle.lexis.specs.Preprocessing.{preprocessing-number, preprocessing-word, Between}

@@ -12,7 +12,7 @@ use Rattle.words.specs.Letter.{digit, letter, nameByte}
 use Rattle.words.specs.Form.{same, oneOf}
 use Rattle.words.specs.Word.{qualifierWords, jumpWords, boolWords, loneWords}
 use Rattle.words.specs.Symbol.{Symbol, symbolText, unaryOperators, binaryOperators, assignmentOperators}
-use Rattle.words.specs.Table.{typeKeywords}
+use Rattle.words.specs.Keyword.{typeKeywords}
 use Rattle.words.proofs.Search.{same-eq, everyWord}
 use Rattle.text.specs.Token.{Token, spell, has}
 use Rattle.text.specs.Token.Token.{name, int, uint, float, double, word, symbol}

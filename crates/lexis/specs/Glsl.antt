@@ -10,7 +10,7 @@ use Rattle.words.specs.Letter.{digit, nameByte}
 use Rattle.words.specs.Form.{all, oneOf, nameForm, floatForm}
 use Rattle.words.specs.Symbol.{symbolText, unaryOperators, binaryOperators, assignmentOperators}
 use Rattle.words.specs.Symbol.Symbol.{left-paren, right-paren, left-bracket, right-bracket, left-brace, right-brace, dot, comma, colon, semicolon, question}
-use Rattle.words.specs.Table.{typeKeywords}
+use Rattle.words.specs.Keyword.{typeKeywords}
 use Rattle.text.specs.Token.{Token, spell}
 use Rattle.text.specs.Token.Token.{name, int, uint, float, double, word, symbol}
 use Rattle.lexis.specs.Keywords.{listed}

@@ -7,7 +7,7 @@ ghost use mathlib.Core.Bool.{true, cond};
 ghost use mathlib.Core.List.{[], _∷_, _++_};
 ghost use lib.ListN.{replicate};
 ghost use Rattle.words.specs.Bytes.{bytes};
-ghost use Rattle.words.specs.Table as Table;
+ghost use Rattle.word_table.specs.Table as Table;
 ghost use Rattle.decimal.specs.Decimal.{decimal};
 ghost use Rattle.records.specs.Record.{part};
 ghost use Rattle.settings.specs.declared.Settings.{Settings};
@@ -18,7 +18,7 @@ ghost use Rattle.pen.specs.Promise.{Wrote, Whitened, Ran};
 use settings::FormattingState;
 use settings::Settings;
 use settings::Whitespace;
-use words::rows::Words;
+use word_table::rows::Words;
 
 // Where the next byte goes, the record to be read next, and the state of the line layout.
 pub struct Pen {
@@ -122,12 +122,12 @@ impl Pen {
         self.write_str(room, records::part_of(names, a, b))
     }
 
-    // A word or an operator, by its row of the lent table (words::rows has the rows by name).
+    // A word or an operator, by its row of the lent table (word_table::rows has the rows by name).
     pub fn write_word(self, room: &mut [u8], table: &Words, row: usize) -> Pen
         requires { ⌜ now table ≡ Table.table ⌝ }
         ensures { λ r. ⌜ Wrote (Table.textAt row) (now (room .entry)) self (now (room .exit)) r ⌝ }
     {
-        self.write_str(room, words::row(table, row))
+        self.write_str(room, word_table::row(table, row))
     }
 
     // A space, where it is asked for.

@@ -1,7 +1,7 @@
 // 000 show_initializer and the list within it, which call each other: at each call 2 * (records left) + rank falls.
 ghost use mathlib.Core.Path.{_≡_};
 ghost use mathlib.Core.Bool.{true};
-ghost use Rattle.words.specs.Table as Table;
+ghost use Rattle.word_table.specs.Table as Table;
 ghost use Rattle.text.specs.Tree.{Initializers};
 ghost use Rattle.text.specs.Text.{show-initializer, show-initializers};
 ghost use Rattle.text.specs.Reading as Reading;
@@ -9,7 +9,7 @@ ghost use Rattle.text.specs.Reading.{several};
 ghost use Rattle.leaves.specs.Shown.{Shows};
 use pen::Pen;
 use settings::Settings;
-use words::rows::Words;
+use word_table::rows::Words;
 
 // 000 show_initializer.
 pub fn show_initializer(

@@ -3,7 +3,7 @@
 ghost use mathlib.Core.Path.{_≡_};
 ghost use mathlib.Core.Bool.{cond};
 ghost use mathlib.Core.Option.{none, some};
-ghost use Rattle.words.specs.Table as Table;
+ghost use Rattle.word_table.specs.Table as Table;
 ghost use Rattle.records.specs.Record.{part};
 ghost use Rattle.settings.specs.declared.Settings.{Settings};
 ghost use Rattle.text.specs.Text.{show-fully-specified-type, show-declaration, show-function-prototype, show-function-parameter-declaration, show-init-declarator-list, show-single-declaration, show-declared, show-initialized, show-single-declaration-no-type, show-block, show-block-name};
@@ -14,7 +14,7 @@ ghost use Rattle.leaves.specs.Shown.{Shows};
 use pen::Pen;
 use settings::Settings;
 use show_expr::show;
-use words::rows::Words;
+use word_table::rows::Words;
 
 pub mod initializer;
 

@@ -1,12 +1,12 @@
 // The printers of expressions and of what they hold: 000 show_type_specifier_non_array to show_function_identifier.
 ghost use mathlib.Core.Path.{_≡_};
-ghost use Rattle.words.specs.Table as Table;
+ghost use Rattle.word_table.specs.Table as Table;
 ghost use Rattle.text.specs.Text.{show-expr};
 ghost use Rattle.text.specs.Reading as Reading;
 ghost use Rattle.leaves.specs.Shown.{Shows};
 use pen::Pen;
 use settings::Settings;
-use words::rows::Words;
+use word_table::rows::Words;
 
 pub mod show;
 

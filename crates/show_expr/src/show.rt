@@ -7,7 +7,7 @@ ghost use mathlib.Core.Path.{_≡_};
 ghost use mathlib.Core.Bool.{true, cond};
 ghost use mathlib.Core.Option.{none, some};
 ghost use lib.Dec.{leb, eqb};
-ghost use Rattle.words.specs.Table as Table;
+ghost use Rattle.word_table.specs.Table as Table;
 ghost use Rattle.records.specs.Record.{part};
 ghost use Rattle.text.specs.Tree.{Expr, Exprs, TypeSpecifiers, TypeSpecifierNonArray, TypeQualifierSpec, LayoutQualifier, StructFieldSpecifiers, ArrayedIdentifiers};
 ghost use Rattle.text.specs.Text.{precedence, bare-if, show-type-specifier-non-array, show-type-specifier, show-struct-fields, show-struct-field, show-array-spec, show-dimension, show-arrayed-identifier, show-arrayed-identifiers, show-qualification, show-type-qualifier, show-type-qualifier-spec, show-layout-qualifier-spec, show-expr, show-function-identifier};
@@ -17,7 +17,7 @@ ghost use Rattle.leaves.specs.Shown.{Shows};
 use pen::Pen;
 use records::Record;
 use settings::Settings;
-use words::rows::Words;
+use word_table::rows::Words;
 
 // What an operand may bind at most and be bare: anything, or one less than a number of HasPrecedence where 000 asks for less.
 pub const ANY: u8 = precedence::COMMA;

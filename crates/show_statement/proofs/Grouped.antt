@@ -2,24 +2,21 @@
 use mathlib.Core.Path.{_≡_, refl, sym, ap, _∙_}
 use mathlib.Core.Bool.{Bool, true, false, cond}
 use mathlib.Core.List.{List}
-use mathlib.Core.Option.{Option}
 use Prim.Native.Nat.{ℕ, _+_}
 use native.Mathlib.Omega.{arith}
 use lib.Dec.{eqb}
 use Rattle.records.specs.Record.{bit0, bit1}
-use Rattle.text.specs.Tree.{Expr, Condition, ForInitStatement, Statement}
+use Rattle.text.specs.Tree.{Expr, ForInitStatement, Statement}
 use Rattle.text.specs.Reading.{Read, Reader, give, applied, behind, _and_, maybe, from, expr, condition, for-init, statement, selection-statement, for-statement}
 use Rattle.text.proofs.At.{and-at, part-at}
-use Rattle.show_statement.specs.Rest.{SelectionRestStatement, ForRestStatement, selectionRest, forRest}
+use Rattle.show_simple.specs.Rest.{ForRestStatement, forRest}
+use Rattle.show_simple.proofs.Simple.{rest-of}
+use Rattle.show_statement.specs.Rest.{SelectionRestStatement, selectionRest}
 
 -- an if statement, from its condition and what stands behind it
 abbrev pub if-of : Expr → SelectionRestStatement → Statement
 if-of e (SelectionRestStatement.Statement s) = Statement.If e s
 if-of e (SelectionRestStatement.Else s t) = Statement.IfElse e s t
-
--- a for's rest, from its parts
-abbrev pub rest-of : Option Condition → Option Expr → ForRestStatement
-rest-of c e = record { condition = c; post-expr = e }
 
 -- a for statement, from its start, its rest and its body
 abbrev pub for-of : ForInitStatement → ForRestStatement → Statement → Statement

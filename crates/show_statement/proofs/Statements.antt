@@ -2,41 +2,38 @@
 use mathlib.Core.Path.{_≡_, refl, sym, ap, _∙_}
 use mathlib.Core.Bool.{Bool, false, not, _&&_}
 use mathlib.Core.List.{List, [], _∷_, _++_, append-assoc}
-use mathlib.Core.Option.{none, some}
-use Prim.Native.Nat.{ℕ, zero, suc, _+_, _<_, _≤_}
+use Prim.Native.Nat.{ℕ, _+_, _<_}
 use native.Mathlib.Nat.{add-zero}
 use native.Mathlib.Omega.{arith}
 use lib.Dec.{eqb}
-use lib.ListN.{List·getD-eq-default}
 use borrow.Author.Tests.{ne-eqb}
 use Rattle.words.specs.Bytes.{bytes}
-use Rattle.words.specs.Word.{Word, wordText, jumpWords}
+use Rattle.words.specs.Word.{Word, wordText}
 use Rattle.words.specs.Symbol.{Symbol, symbolText}
 use Rattle.records.specs.declared.Record.{Record}
-use Rattle.records.specs.Record.{recordAt, textOf, bit0, bit1}
+use Rattle.records.specs.Record.{recordAt}
 use Rattle.settings.specs.declared.Settings.{Settings}
 use Rattle.text.specs.Token.{Token, spell}
 use Rattle.text.specs.Pen.{pend, atBody}
-use Rattle.text.specs.Command.{Command, write-else, write-binary-token, write-statement-terminator, write-for-statement-separator, write-statement-opening-parenthesis, write-statement-closing-parenthesis, enter-case-label, enter-block, exit-block}
+use Rattle.text.specs.Command.{Command, write-else, write-statement-terminator, write-for-statement-separator, write-statement-opening-parenthesis, write-statement-closing-parenthesis, enter-block, exit-block}
 use Rattle.text.specs.Command.Command.{flush-line, flush-space, consume-newline, consume-function-definition-statement}
-use Rattle.text.specs.Tree.{Expr, Condition, ForInitStatement, JumpStatement, Statement}
-use Rattle.text.specs.Text.{a-word, compound, show-compound-statement, show-expr, show-fully-specified-type, show-initializer, show-declaration, show-optional-expr, show-optional-condition, show-condition, show-for-init-statement, show-jump-statement, show-statement, show-statements}
-use Rattle.text.specs.Reading.{Item, Reader, give, made, counted, _and_, maybe, from, itemOf, statementOf, compoundOf, conditionOf, forInitOf, expr, full-type, initializer, declaration, condition, for-init, statement, statements, expression-statement, selection-statement, switch-statement, case-label, while-statement, do-while-statement, for-statement, jump-statement}
+use Rattle.text.specs.Tree.{Expr, Statement}
+use Rattle.text.specs.Text.{a-word, compound, show-compound-statement, show-expr, show-declaration, show-optional-expr, show-optional-condition, show-condition, show-for-init-statement, show-jump-statement, show-statement, show-statements}
+use Rattle.text.specs.Reading.{Item, Reader, give, made, counted, _and_, from, itemOf, statementOf, compoundOf, expr, declaration, condition, for-init, statement, statements, selection-statement, switch-statement, while-statement, do-while-statement, for-statement, jump-statement}
 use Rattle.text.proofs.At.{single-item-count}
 use Rattle.pen.specs.declared.Pen.{Pen}
 use Rattle.pen.specs.Sheet.{leave}
 use Rattle.pen.specs.Promise.{Wrote, Ran}
 use Rattle.pen.proofs.Chain.{_then_, by-consume-newline, by-consume-function-definition-statement}
 use Rattle.leaves.specs.Shown.{past, Shows}
-use Rattle.leaves.specs.Jump.{jumpWord}
-use Rattle.leaves.proofs.Rows.{by-operator}
 use Rattle.leaves.proofs.Shown.{_thus_, wrote, told, reads, opened}
 use Rattle.show_expr.proofs.At.{as-kind}
 use Rattle.show_expr.proofs.Parts.{piece, begin, _writes_, _shows_, so, only}
-use Rattle.show_expr.proofs.Printers.{put, space, enclosed, none-there, of-row, of-parts, as-sort-row, item-behind}
-use Rattle.show_statement.specs.Flushed.{behind-flush}
-use Rattle.show_statement.specs.Rest.{SelectionRestStatement, selectionRest, forRest, show-selection-rest-statement, show-for-rest-statement}
-use Rattle.show_statement.proofs.Grouped.{if-of, rest-of, for-of, selection-grouped, for-grouped}
+use Rattle.show_expr.proofs.Printers.{put, space, enclosed, none-there, of-row, as-sort-row, item-behind}
+use Rattle.show_simple.specs.Flushed.{behind-flush}
+use Rattle.show_simple.specs.Rest.{forRest, show-for-rest-statement}
+use Rattle.show_statement.specs.Rest.{SelectionRestStatement, selectionRest, show-selection-rest-statement}
+use Rattle.show_statement.proofs.Grouped.{if-of, for-of, selection-grouped, for-grouped}
 
 -- every statement begins with the flush
 pub flush-first : (collapse : Bool) (x : Statement) → flush-line ∷ behind-flush (show-statement collapse) x ≡ show-statement collapse x
@@ -62,11 +59,6 @@ unfolding show-statement
 if-shown collapse e (SelectionRestStatement.Statement s) = refl
 if-shown collapse e (SelectionRestStatement.Else s t) =
     sym (enclosed (a-word Word.if ++ write-statement-opening-parenthesis ++ show-expr e ++ write-statement-closing-parenthesis) (show-statement collapse s) write-else (consume-newline ∷ show-statement collapse t))
-
--- a jump behind the last word returns, too
-return-word : (v : ℕ) → 4 ≤ v → jumpWord v ≡ Word.return
-unfolding jumpWords
-return-word v h = List·getD-eq-default jumpWords Word.return h
 
 -- the last arm of a match: none of the numbers, of which the last stands first
 abbrev pub NoneOf : List ℕ → ℕ → Type 0
@@ -101,39 +93,6 @@ module _ (rs ns : List ℕ) {s : Settings} where
   module _ {room₀ room₁ : List ℕ} {p₀ p₁ : Pen} where
     -- records
     module _ {r : Record} {p : Pen} (e : r ≡ recordAt rs (p₀ .next)) where
-      pub asked : r .kind ≡ 69 → r .variant ≡ 0 → p ≡ past rs p₀ → Shows show-expr expr s rs ns room₀ p room₁ p₁ → Shows show-condition condition s rs ns room₀ p₀ room₁ p₁
-      unfolding show-condition itemOf conditionOf
-      asked k v f a =
-          of-parts rs ns e (λ (x : Item). x .condition) show-condition 69 (omega arith) k f (begin Condition.OfExpr shows piece show-expr expr a) (rw v refl) refl
-
-      pub declared : r .kind ≡ 69 → (r .variant ≡ 0 → ⊥) → {room₂ room₃ room₄ room₅ : List ℕ} {p₂ p₃ p₄ p₅ : Pen} → p ≡ past rs p₀ → Shows show-fully-specified-type full-type s rs ns room₀ p room₂ p₂
-          → Wrote (bytes " ") room₂ p₂ room₃ p₃ → Wrote (textOf ns r) room₃ p₃ room₄ p₄ → Ran s (write-binary-token (Token.name (bytes "="))) room₄ p₄ room₅ p₅
-          → Shows show-initializer initializer s rs ns room₅ p₅ room₁ p₁ → Shows show-condition condition s rs ns room₀ p₀ room₁ p₁
-      unfolding show-condition spell symbolText itemOf conditionOf
-      declared k v f a w n o b =
-          of-parts rs ns e (λ (x : Item). x .condition) show-condition 69 (omega arith) k f
-          (begin (Condition.Assignment (textOf ns r)) shows piece show-fully-specified-type full-type a writes space w writes put (Token.name (textOf ns r)) refl n writes wrote (by-operator Symbol.equal refl o)
-          shows piece show-initializer initializer b) (rw (ne-eqb (r .variant) 0 v) refl) refl
-
-      -- how a for starts: with nothing, an expression, a declaration
-      pub starts-empty : r .kind ≡ 70 → r .variant ≡ 0 → p ≡ past rs p₀ → Ran s write-for-statement-separator room₀ p room₁ p₁ → Shows show-for-init-statement for-init s rs ns room₀ p₀ room₁ p₁
-      unfolding show-for-init-statement show-optional-expr itemOf forInitOf
-      starts-empty k v f o =
-          of-parts rs ns e (λ (x : Item). x .for-init) show-for-init-statement 70 (omega arith) k f (begin (ForInitStatement.Expression none) writes wrote o) (rw v refl) refl
-
-      pub starts-expr : r .kind ≡ 70 → r .variant ≡ 1 → {room₂ : List ℕ} {p₂ : Pen} → p ≡ past rs p₀ → Shows show-expr expr s rs ns room₀ p room₂ p₂ → Ran s write-for-statement-separator room₂ p₂ room₁ p₁
-          → Shows show-for-init-statement for-init s rs ns room₀ p₀ room₁ p₁
-      unfolding show-for-init-statement show-optional-expr itemOf forInitOf
-      starts-expr k v f a o =
-          of-parts rs ns e (λ (x : Item). x .for-init) show-for-init-statement 70 (omega arith) k f (begin (λ (e : Expr). ForInitStatement.Expression (some e)) shows piece show-expr expr a writes wrote o) (rw v refl) refl
-
-      pub starts-declared : r .kind ≡ 70 → (r .variant ≡ 0 → ⊥) → (r .variant ≡ 1 → ⊥) → p ≡ past rs p₀ → Shows show-declaration declaration s rs ns room₀ p room₁ p₁
-          → Shows show-for-init-statement for-init s rs ns room₀ p₀ room₁ p₁
-      unfolding show-for-init-statement itemOf forInitOf
-      starts-declared k v u f a =
-          of-parts rs ns e (λ (x : Item). x .for-init) show-for-init-statement 70 (omega arith) k f (begin ForInitStatement.OfDeclaration shows piece show-declaration declaration a)
-          (rw (ne-eqb (r .variant) 0 v, ne-eqb (r .variant) 1 u) refl) refl
-
       -- a statement's record by its kind: what was shown behind it; a declaration is one by itself
       pub of-kind : (k : ℕ) (parts : Reader Statement) → itemOf ns (as-kind k r) (from rs ns (p₀ .next + 1)) .statement ≡ counted (parts (from rs ns (p₀ .next + 1))) → 0 < k → r .kind ≡ k → p ≡ past rs p₀
           → Shows (show-behind s) parts s rs ns room₀ p room₁ p₁ → Shows (show-behind s) statement s rs ns room₀ p₀ room₁ p₁
@@ -154,15 +113,6 @@ module _ (rs ns : List ℕ) {s : Settings} where
     declaration-row e k a = as-sort-row rs ns e (λ (x : Item). x .declaration) (λ (x : Item). x .statement) Statement.OfDeclaration show-declaration (show-behind s) 47 refl (λ d. refl) k a
 
     -- behind their records
-    pub jump : (v : ℕ) → v < 4 → {room₂ : List ℕ} {p₂ : Pen} → Ran s (a-word (jumpWord v)) room₀ p₀ room₂ p₂ → Ran s write-statement-terminator room₂ p₂ room₁ p₁
-        → Shows show-jump-statement (jump-statement v) s rs ns room₀ p₀ room₁ p₁
-    unfolding show-jump-statement jumpWords
-    jump zero h w o = wrote w thus wrote o
-    jump (suc zero) h w o = wrote w thus wrote o
-    jump (suc (suc zero)) h w o = wrote w thus wrote o
-    jump (suc (suc (suc zero))) h w o = wrote w thus wrote o
-    jump (suc (suc (suc (suc v)))) h w o = absurd (omega arith)
-
     pub then-parts : (v : ℕ) → v ≡ 0 → Shows (show-statement (collapse s)) statement s rs ns room₀ p₀ room₁ p₁ → Shows (show-selection-rest-statement (collapse s)) (selectionRest v) s rs ns room₀ p₀ room₁ p₁
     then-parts v h a = rw h (only rs ns SelectionRestStatement.Statement statement (show-statement (collapse s)) (show-selection-rest-statement (collapse s)) (λ x. refl) a)
 
@@ -189,85 +139,55 @@ module _ (rs ns : List ℕ) {s : Settings} where
         (h (show-statements (collapse s) ss) ∙ ap (λ (y : Bool). compound y (show-statements (collapse s) ss)) (sym (ap (λ (y : Bool). not body && collapse s && y) (single-item-count n L) ∙ t)))
         (add-zero _) (item-behind rs ns (show-statements (collapse s)) (statements n) (o then by-consume-function-definition-statement c) a thus wrote x)
 
-    module _ {room₂ : List ℕ} {p₂ : Pen} where
-      pub expression-parts : (v : ℕ) → Shows show-optional-expr (maybe (eqb v 1) expr) s rs ns room₀ p₀ room₂ p₂ → Ran s write-statement-terminator room₂ p₂ room₁ p₁
-          → Shows (show-behind s) (expression-statement v) s rs ns room₀ p₀ room₁ p₁
-      unfolding show-statement
-      expression-parts v a o = so (show-behind s) (begin Statement.Expression shows (piece show-optional-expr (maybe (eqb v 1) expr) a) writes wrote o) refl
+    module _ {room₂ room₃ room₄ room₅ : List ℕ} {p₂ p₃ p₄ p₅ : Pen} where
+      pub if-parts : (v : ℕ) → Wrote (bytes "if") room₀ p₀ room₂ p₂ → Ran s write-statement-opening-parenthesis room₂ p₂ room₃ p₃ → Shows show-expr expr s rs ns room₃ p₃ room₄ p₄
+          → Ran s write-statement-closing-parenthesis room₄ p₄ room₅ p₅ → Shows (show-selection-rest-statement (collapse s)) (selectionRest v) s rs ns room₅ p₅ room₁ p₁
+          → Shows (show-behind s) (selection-statement v) s rs ns room₀ p₀ room₁ p₁
+      unfolding spell wordText
+      if-parts v w o a c b =
+          reads (show-behind s) (selection-statement v) rs ns _ (selection-grouped rs ns v (p₀ .next)) refl refl
+          (so (show-behind s)
+          (begin if-of writes put (Token.word Word.if) refl w writes wrote o shows (piece show-expr expr a) writes wrote c shows (piece (show-selection-rest-statement (collapse s)) (selectionRest v) b))
+          (if-shown (collapse s) (expr (from rs ns (p₃ .next)) .tree) (selectionRest v (from rs ns (p₅ .next)) .tree)))
 
-      pub default-parts : (v : ℕ) → v ≡ 0 → Wrote (bytes "default") room₀ p₀ room₂ p₂ → Ran s enter-case-label room₂ p₂ room₁ p₁ → Shows (show-behind s) (case-label v) s rs ns room₀ p₀ room₁ p₁
+      pub while-parts : Wrote (bytes "while") room₀ p₀ room₂ p₂ → Ran s write-statement-opening-parenthesis room₂ p₂ room₃ p₃ → Shows show-condition condition s rs ns room₃ p₃ room₄ p₄
+          → Ran s write-statement-closing-parenthesis room₄ p₄ room₅ p₅ → Shows (show-statement (collapse s)) statement s rs ns room₅ p₅ room₁ p₁ → Shows (show-behind s) while-statement s rs ns room₀ p₀ room₁ p₁
       unfolding show-statement spell wordText
-      default-parts v h w o = rw h (put (Token.word Word.default) refl w thus wrote o)
+      while-parts w o a c b =
+          so (show-behind s) (begin Statement.While writes put (Token.word Word.while) refl w writes wrote o shows (piece show-condition condition a) writes wrote c shows (piece (show-statement (collapse s)) statement b)) refl
 
-      pub rest-parts : (v : ℕ) {room₃ : List ℕ} {p₃ : Pen} → Shows show-optional-condition (maybe (bit0 v) condition) s rs ns room₀ p₀ room₂ p₂ → Ran s write-for-statement-separator room₂ p₂ room₃ p₃
-          → Shows show-optional-expr (maybe (bit1 v) expr) s rs ns room₃ p₃ room₁ p₁ → Shows show-for-rest-statement (forRest v) s rs ns room₀ p₀ room₁ p₁
-      rest-parts v a o b =
-          so show-for-rest-statement (begin rest-of shows (piece show-optional-condition (maybe (bit0 v) condition) a) writes wrote o shows (piece show-optional-expr (maybe (bit1 v) expr) b)) refl
+      module _ {room₆ room₇ : List ℕ} {p₆ p₇ : Pen} where
+        pub switch-parts : (n : ℕ) → Wrote (bytes "switch") room₀ p₀ room₂ p₂ → Ran s write-statement-opening-parenthesis room₂ p₂ room₃ p₃ → Shows show-expr expr s rs ns room₃ p₃ room₄ p₄
+            → Wrote (bytes ")") room₄ p₄ room₅ p₅ → Ran s enter-block room₅ p₅ room₆ p₆ → Shows (show-statements (collapse s)) (statements n) s rs ns room₆ p₆ room₇ p₇
+            → Ran s exit-block room₇ p₇ room₁ p₁ → Shows (show-behind s) (switch-statement n) s rs ns room₀ p₀ room₁ p₁
+        unfolding show-statement spell wordText symbolText
+        switch-parts n w o a c b d x =
+            so (show-behind s)
+            (begin Statement.Switch writes put (Token.word Word.switch) refl w writes wrote o shows (piece show-expr expr a) writes put (Token.symbol Symbol.right-paren) refl c writes wrote b
+            shows (piece (show-statements (collapse s)) (statements n) d) writes wrote x) refl
 
-      module _ {room₃ room₄ : List ℕ} {p₃ p₄ : Pen} where
-        pub return-parts : (v : ℕ) → 4 ≤ v → Ran s (a-word (jumpWord v)) room₀ p₀ room₂ p₂ → Wrote (bytes " ") room₂ p₂ room₃ p₃ → Shows show-expr expr s rs ns room₃ p₃ room₄ p₄
-            → Ran s write-statement-terminator room₄ p₄ room₁ p₁ → Shows show-jump-statement (jump-statement v) s rs ns room₀ p₀ room₁ p₁
-        unfolding show-jump-statement
-        return-parts v h w b a o =
-            let returned : Ran s (a-word Word.return) room₀ p₀ room₂ p₂ = rw (return-word v (omega arith)) at w in
-            rw (ne-eqb v 0 (λ e. omega (arith, h, e)), ne-eqb v 1 (λ e. omega (arith, h, e)), ne-eqb v 2 (λ e. omega (arith, h, e)), ne-eqb v 3 (λ e. omega (arith, h, e)))
-            (so show-jump-statement (begin (λ (x : Expr). JumpStatement.Return (some x)) writes wrote returned writes space b shows (piece show-expr expr a) writes wrote o) refl)
-
-        pub case-parts : (v : ℕ) → (v ≡ 0 → ⊥) → Wrote (bytes "case") room₀ p₀ room₂ p₂ → Wrote (bytes " ") room₂ p₂ room₃ p₃ → Shows show-expr expr s rs ns room₃ p₃ room₄ p₄
-            → Ran s enter-case-label room₄ p₄ room₁ p₁ → Shows (show-behind s) (case-label v) s rs ns room₀ p₀ room₁ p₁
+        pub for-parts : (v : ℕ) → Wrote (bytes "for") room₀ p₀ room₂ p₂ → Ran s write-statement-opening-parenthesis room₂ p₂ room₃ p₃ → Shows show-for-init-statement for-init s rs ns room₃ p₃ room₄ p₄
+            → Ran s (flush-space ∷ []) room₄ p₄ room₅ p₅ → Shows show-for-rest-statement (forRest v) s rs ns room₅ p₅ room₆ p₆ → Ran s write-statement-closing-parenthesis room₆ p₆ room₇ p₇
+            → Shows (show-statement (collapse s)) statement s rs ns room₇ p₇ room₁ p₁ → Shows (show-behind s) (for-statement v) s rs ns room₀ p₀ room₁ p₁
         unfolding show-statement spell wordText
-        case-parts v h w b a o =
-            rw (ne-eqb v 0 h) (so (show-behind s) (begin Statement.Case writes put (Token.word Word.case) refl w writes space b shows (piece show-expr expr a) writes wrote o) refl)
+        for-parts v w o a f b c d =
+            let i = show-for-init-statement (for-init (from rs ns (p₃ .next)) .tree) in
+            let r = forRest v (from rs ns (p₅ .next)) .tree in
+            let t = show-statement (collapse s) (statement (from rs ns (p₇ .next)) .tree) in
+            let before = a-word Word.for ++ write-statement-opening-parenthesis ++ i in
+            reads (show-behind s) (for-statement v) rs ns _ (for-grouped rs ns v (p₀ .next)) refl refl
+            (so (show-behind s)
+            (begin for-of writes put (Token.word Word.for) refl w writes wrote o shows (piece show-for-init-statement for-init a) writes wrote f shows (piece show-for-rest-statement (forRest v) b) writes wrote c
+            shows (piece (show-statement (collapse s)) statement d))
+            (ap (λ (l : List Command). l ++ write-statement-closing-parenthesis ++ t)
+            (sym (enclosed (before ++ (flush-space ∷ [])) (show-optional-condition (r .condition)) write-for-statement-separator (show-optional-expr (r .post-expr)))
+            ∙ ap (λ (l : List Command). l ++ write-for-statement-separator ++ show-optional-expr (r .post-expr)) (append-assoc before (flush-space ∷ []) (show-optional-condition (r .condition))))))
 
-        module _ {room₅ : List ℕ} {p₅ : Pen} where
-          pub if-parts : (v : ℕ) → Wrote (bytes "if") room₀ p₀ room₂ p₂ → Ran s write-statement-opening-parenthesis room₂ p₂ room₃ p₃ → Shows show-expr expr s rs ns room₃ p₃ room₄ p₄
-              → Ran s write-statement-closing-parenthesis room₄ p₄ room₅ p₅ → Shows (show-selection-rest-statement (collapse s)) (selectionRest v) s rs ns room₅ p₅ room₁ p₁
-              → Shows (show-behind s) (selection-statement v) s rs ns room₀ p₀ room₁ p₁
-          unfolding spell wordText
-          if-parts v w o a c b =
-              reads (show-behind s) (selection-statement v) rs ns _ (selection-grouped rs ns v (p₀ .next)) refl refl
-              (so (show-behind s)
-              (begin if-of writes put (Token.word Word.if) refl w writes wrote o shows (piece show-expr expr a) writes wrote c shows (piece (show-selection-rest-statement (collapse s)) (selectionRest v) b))
-              (if-shown (collapse s) (expr (from rs ns (p₃ .next)) .tree) (selectionRest v (from rs ns (p₅ .next)) .tree)))
-
-          pub while-parts : Wrote (bytes "while") room₀ p₀ room₂ p₂ → Ran s write-statement-opening-parenthesis room₂ p₂ room₃ p₃ → Shows show-condition condition s rs ns room₃ p₃ room₄ p₄
-              → Ran s write-statement-closing-parenthesis room₄ p₄ room₅ p₅ → Shows (show-statement (collapse s)) statement s rs ns room₅ p₅ room₁ p₁ → Shows (show-behind s) while-statement s rs ns room₀ p₀ room₁ p₁
-          unfolding show-statement spell wordText
-          while-parts w o a c b =
-              so (show-behind s) (begin Statement.While writes put (Token.word Word.while) refl w writes wrote o shows (piece show-condition condition a) writes wrote c shows (piece (show-statement (collapse s)) statement b)) refl
-
-          module _ {room₆ room₇ : List ℕ} {p₆ p₇ : Pen} where
-            pub switch-parts : (n : ℕ) → Wrote (bytes "switch") room₀ p₀ room₂ p₂ → Ran s write-statement-opening-parenthesis room₂ p₂ room₃ p₃ → Shows show-expr expr s rs ns room₃ p₃ room₄ p₄
-                → Wrote (bytes ")") room₄ p₄ room₅ p₅ → Ran s enter-block room₅ p₅ room₆ p₆ → Shows (show-statements (collapse s)) (statements n) s rs ns room₆ p₆ room₇ p₇
-                → Ran s exit-block room₇ p₇ room₁ p₁ → Shows (show-behind s) (switch-statement n) s rs ns room₀ p₀ room₁ p₁
-            unfolding show-statement spell wordText symbolText
-            switch-parts n w o a c b d x =
-                so (show-behind s)
-                (begin Statement.Switch writes put (Token.word Word.switch) refl w writes wrote o shows (piece show-expr expr a) writes put (Token.symbol Symbol.right-paren) refl c writes wrote b
-                shows (piece (show-statements (collapse s)) (statements n) d) writes wrote x) refl
-
-            pub for-parts : (v : ℕ) → Wrote (bytes "for") room₀ p₀ room₂ p₂ → Ran s write-statement-opening-parenthesis room₂ p₂ room₃ p₃ → Shows show-for-init-statement for-init s rs ns room₃ p₃ room₄ p₄
-                → Ran s (flush-space ∷ []) room₄ p₄ room₅ p₅ → Shows show-for-rest-statement (forRest v) s rs ns room₅ p₅ room₆ p₆ → Ran s write-statement-closing-parenthesis room₆ p₆ room₇ p₇
-                → Shows (show-statement (collapse s)) statement s rs ns room₇ p₇ room₁ p₁ → Shows (show-behind s) (for-statement v) s rs ns room₀ p₀ room₁ p₁
-            unfolding show-statement spell wordText
-            for-parts v w o a f b c d =
-                let i = show-for-init-statement (for-init (from rs ns (p₃ .next)) .tree) in
-                let r = forRest v (from rs ns (p₅ .next)) .tree in
-                let t = show-statement (collapse s) (statement (from rs ns (p₇ .next)) .tree) in
-                let before = a-word Word.for ++ write-statement-opening-parenthesis ++ i in
-                reads (show-behind s) (for-statement v) rs ns _ (for-grouped rs ns v (p₀ .next)) refl refl
-                (so (show-behind s)
-                (begin for-of writes put (Token.word Word.for) refl w writes wrote o shows (piece show-for-init-statement for-init a) writes wrote f shows (piece show-for-rest-statement (forRest v) b) writes wrote c
-                shows (piece (show-statement (collapse s)) statement d))
-                (ap (λ (l : List Command). l ++ write-statement-closing-parenthesis ++ t)
-                (sym (enclosed (before ++ (flush-space ∷ [])) (show-optional-condition (r .condition)) write-for-statement-separator (show-optional-expr (r .post-expr)))
-                ∙ ap (λ (l : List Command). l ++ write-for-statement-separator ++ show-optional-expr (r .post-expr)) (append-assoc before (flush-space ∷ []) (show-optional-condition (r .condition))))))
-
-            pub do-while-parts : {room₈ room₉ : List ℕ} {p₈ p₉ : Pen} → Wrote (bytes "do") room₀ p₀ room₂ p₂ → Wrote (bytes " ") room₂ p₂ room₃ p₃ → Shows (show-statement (collapse s)) statement s rs ns room₃ p₃ room₄ p₄
-                → Wrote (bytes " ") room₄ p₄ room₅ p₅ → Wrote (bytes "while") room₅ p₅ room₆ p₆ → Ran s write-statement-opening-parenthesis room₆ p₆ room₇ p₇ → Shows show-expr expr s rs ns room₇ p₇ room₈ p₈
-                → Wrote (bytes ")") room₈ p₈ room₉ p₉ → Ran s write-statement-terminator room₉ p₉ room₁ p₁ → Shows (show-behind s) do-while-statement s rs ns room₀ p₀ room₁ p₁
-            unfolding show-statement spell wordText symbolText
-            do-while-parts w b a c d o x e y =
-                so (show-behind s)
-                (begin Statement.DoWhile writes put (Token.word Word.«do») refl w writes space b shows (piece (show-statement (collapse s)) statement a) writes space c writes put (Token.word Word.while) refl d writes wrote o
-                shows (piece show-expr expr x) writes put (Token.symbol Symbol.right-paren) refl e writes wrote y) refl
+        pub do-while-parts : {room₈ room₉ : List ℕ} {p₈ p₉ : Pen} → Wrote (bytes "do") room₀ p₀ room₂ p₂ → Wrote (bytes " ") room₂ p₂ room₃ p₃ → Shows (show-statement (collapse s)) statement s rs ns room₃ p₃ room₄ p₄
+            → Wrote (bytes " ") room₄ p₄ room₅ p₅ → Wrote (bytes "while") room₅ p₅ room₆ p₆ → Ran s write-statement-opening-parenthesis room₆ p₆ room₇ p₇ → Shows show-expr expr s rs ns room₇ p₇ room₈ p₈
+            → Wrote (bytes ")") room₈ p₈ room₉ p₉ → Ran s write-statement-terminator room₉ p₉ room₁ p₁ → Shows (show-behind s) do-while-statement s rs ns room₀ p₀ room₁ p₁
+        unfolding show-statement spell wordText symbolText
+        do-while-parts w b a c d o x e y =
+            so (show-behind s)
+            (begin Statement.DoWhile writes put (Token.word Word.«do») refl w writes space b shows (piece (show-statement (collapse s)) statement a) writes space c writes put (Token.word Word.while) refl d writes wrote o
+            shows (piece show-expr expr x) writes put (Token.symbol Symbol.right-paren) refl e writes wrote y) refl

@@ -2,16 +2,16 @@
 // show_iteration_statement, whose three kinds of record are a function each. At each call 8 * (records left) + rank falls.
 // All but show_statement and show_statements work behind the record of their statement.
 ghost use mathlib.Core.Path.{_≡_};
-ghost use Rattle.words.specs.Table as Table;
+ghost use Rattle.word_table.specs.Table as Table;
 ghost use Rattle.text.specs.Text.{show-compound-statement, show-statement, show-statements};
 ghost use Rattle.text.specs.Reading as Reading;
 ghost use Rattle.text.specs.Reading.{selection-statement, switch-statement, while-statement, do-while-statement, for-statement};
 ghost use Rattle.leaves.specs.Shown.{Shows};
-ghost use Rattle.show_statement.specs.Flushed.{behind-flush};
+ghost use Rattle.show_simple.specs.Flushed.{behind-flush};
 ghost use Rattle.show_statement.specs.Rest.{selectionRest, show-selection-rest-statement};
 use pen::Pen;
 use settings::Settings;
-use words::rows::Words;
+use word_table::rows::Words;
 
 // 000 show_compound_statement, behind its record, which counts n statements. Whether a function's body begins here is told by whoever calls: 000 asks the state, where it
 // is on at a function's own body and nowhere else.
@@ -81,14 +81,14 @@ fn show_statement(
     match kind {
         47 => show_declaration::show_declaration(s, t, records, names, room, flushed),
         60 => show_compound_statement(s, t, records, names, room, inside, false, r.count),
-        61 => crate::show_expression_statement(s, t, records, names, room, inside, r.variant),
+        61 => show_simple::show_expression_statement(s, t, records, names, room, inside, r.variant),
         62 => show_selection_statement(s, t, records, names, room, inside, r.variant),
         63 => show_switch_statement(s, t, records, names, room, inside, r.count),
-        64 => crate::show_case_label(s, t, records, names, room, inside, r.variant),
+        64 => show_simple::show_case_label(s, t, records, names, room, inside, r.variant),
         65 => show_while(s, t, records, names, room, inside),
         66 => show_do_while(s, t, records, names, room, inside),
         67 => show_for(s, t, records, names, room, inside, r.variant),
-        68 => crate::show_jump_statement(s, t, records, names, room, inside, r.variant),
+        68 => show_simple::show_jump_statement(s, t, records, names, room, inside, r.variant),
         _ => flushed,
     }
 }
@@ -171,7 +171,7 @@ fn show_while(
 {
     let word = pen.write_str(room, b"while");
     let opened = word.write_statement_opening_parenthesis(room, s);
-    let asked = crate::show_condition(s, t, records, names, room, opened);
+    let asked = show_simple::show_condition(s, t, records, names, room, opened);
     let closed = asked.write_statement_closing_parenthesis(room, s);
     show_statement(s, t, records, names, room, closed)
 }
@@ -214,9 +214,9 @@ fn show_for(
 {
     let word = pen.write_str(room, b"for");
     let opened = word.write_statement_opening_parenthesis(room, s);
-    let begun = crate::show_for_init_statement(s, t, records, names, room, opened);
+    let begun = show_simple::show_for_init_statement(s, t, records, names, room, opened);
     let apart = begun.flush_space(room);
-    let asked = crate::show_for_rest_statement(s, t, records, names, room, apart, v);
+    let asked = show_simple::show_for_rest_statement(s, t, records, names, room, apart, v);
     let closed = asked.write_statement_closing_parenthesis(room, s);
     show_statement(s, t, records, names, room, closed)
 }

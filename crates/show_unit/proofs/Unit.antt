@@ -20,7 +20,7 @@ use Rattle.leaves.specs.Shown.{past, Shows}
 use Rattle.leaves.proofs.Shown.{Listed, wrote, reads, opened}
 use Rattle.show_expr.proofs.Parts.{begin, _writes_, _shows_, piece, so}
 use Rattle.show_expr.proofs.Printers.{of-row, as-sort-row, none-there}
-use Rattle.show_statement.specs.Flushed.{behind-flush}
+use Rattle.show_simple.specs.Flushed.{behind-flush}
 use Rattle.show_statement.proofs.Statements.{flushed as behind-a-flush}
 
 -- the declarations of a unit

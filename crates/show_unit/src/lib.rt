@@ -1,16 +1,16 @@
 // The printers of a unit: 000 show_function_definition, show_external_declaration and show_translation_unit.
 ghost use mathlib.Core.Path.{_≡_};
 ghost use mathlib.Core.Bool.{true};
-ghost use Rattle.words.specs.Table as Table;
+ghost use Rattle.word_table.specs.Table as Table;
 ghost use Rattle.text.specs.Text.{show-compound-statement, show-external-declaration, show-translation-unit};
 ghost use Rattle.text.specs.Reading as Reading;
 ghost use Rattle.text.specs.Reading.{function-definition};
 ghost use Rattle.leaves.specs.Shown.{Shows};
-ghost use Rattle.show_statement.specs.Flushed.{behind-flush};
+ghost use Rattle.show_simple.specs.Flushed.{behind-flush};
 use pen::Pen;
 use settings::Settings;
 use show_statement::statement;
-use words::rows::Words;
+use word_table::rows::Words;
 
 // 000 show_function_definition, behind its record.
 fn show_function_definition(

@@ -14,7 +14,7 @@ use Rattle.words.specs.Form.{nameForm, floatForm}
 use Rattle.words.specs.Letter.{letter, digit, nameByte}
 use Rattle.words.specs.Symbol.{Symbol, symbolText}
 use Rattle.words.specs.Symbol.Symbol.{dot, inc-op, dec-op, question, colon}
-use Rattle.words.specs.Table.{typeKeywords}
+use Rattle.words.specs.Keyword.{typeKeywords}
 use Rattle.decimal.specs.Decimal.{negative, magnitude}
 use Rattle.settings.specs.declared.Settings.{Settings}
 use Rattle.settings.specs.declared.FormattingState.{FormattingState}

@@ -3,7 +3,7 @@ use mathlib.Core.Path.{refl}
 use Prim.Native.Nat.{_^_}
 use lib.ListN.{length}
 use borrow.Author.Tests.{lt-ltb}
-use Rattle.words.specs.Table.{typeKeywords}
+use Rattle.words.specs.Keyword.{typeKeywords}
 use Rattle.lexis.specs.Keywords.{listed}
 use Rattle.lexis.specs.Glsl.{proper}
 use Rattle.sound.proofs.Divided.{Admits}

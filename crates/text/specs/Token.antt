@@ -8,7 +8,7 @@ use lib.Dec.{eqb}
 use Rattle.words.specs.Bytes.{bytes}
 use Rattle.words.specs.Word.{Word, wordText}
 use Rattle.words.specs.Symbol.{Symbol, symbolText}
-use Rattle.words.specs.Table.{typeKeywords}
+use Rattle.words.specs.Keyword.{typeKeywords}
 use Rattle.decimal.specs.Decimal.{decimal}
 
 pub data Token : Type 0 where

@@ -6,7 +6,7 @@ use Prim.Native.Char.{code}
 use lib.Dec.{T}
 use lib.ListN.{replicate}
 use Rattle.words.specs.Word.{wordText, qualifierWords, jumpWords, boolWords, loneWords, otherWords}
-use Rattle.words.specs.Table.{typeKeywords, fixedWords}
+use Rattle.words.specs.Keyword.{typeKeywords, fixedWords}
 use Rattle.words.specs.Form.{digit, letter, nameByte, all, same, oneOf, nameForm, digits, behindDigits, wholePart, fraction, nothingOrFraction, floatForm}
 use Rattle.words.proofs.Search.{everyWord}
 
@@ -14,7 +14,7 @@ names-taken : T (everyWord nameForm ("x" ∷ "_1" ∷ "voids" ∷ "Void" ∷ "lf
 unfolding everyWord nameForm digit letter nameByte all same oneOf fixedWords typeKeywords otherWords qualifierWords jumpWords boolWords loneWords wordText
 names-taken = tt
 
-names-refused : T (everyWord (λ s. not (nameForm s)) ("" ∷ "1a" ∷ "a b" ∷ "a-b" ∷ "void" ∷ "do" ∷ "true" ∷ "false" ∷ "sampler2DShadow" ∷ "noperspective" ∷ []))
+names-refused : T (everyWord (λ s. not (nameForm s)) ("" ∷ "1a" ∷ "a b" ∷ "a-b" ∷ "void" ∷ "do" ∷ "true" ∷ "false" ∷ "sampler2DShadow" ∷ "centroid" ∷ "noperspective" ∷ []))
 unfolding everyWord nameForm digit letter nameByte all same oneOf fixedWords typeKeywords otherWords qualifierWords jumpWords boolWords loneWords wordText
 names-refused = tt
 

@@ -1,12 +1,6 @@
 pub mod Tests
-pub mod Listed
 pub mod Laws
 pub mod Floats
-pub mod Places
 pub mod Search
-pub mod Rule
-pub mod Slots
-pub mod Flaws
 pub mod Names
-pub mod Sections
 pub mod Examples

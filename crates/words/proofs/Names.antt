@@ -5,7 +5,7 @@ use mathlib.Core.List.{List}
 use Prim.Native.Nat.{ℕ, _≤_, _<_}
 use lib.ListN.{length, getD}
 use borrow.Author.Tests.{le-leb, lt-leb}
-use Rattle.words.specs.Table.{fixedWords}
+use Rattle.words.specs.Keyword.{fixedWords}
 use Rattle.words.specs.Form.{longest-name, digit, nameByte, all, oneOf, nameForm}
 
 module _ (s : List ℕ) where

@@ -8,7 +8,7 @@ use lib.ListN.{length, getD}
 use lib.Dec.{eqb}
 use Rattle.words.specs.Bytes.{bytes}
 unfoldable pub use Rattle.words.specs.Letter.{between, digit, letter, nameByte}
-use Rattle.words.specs.Table.{fixedWords}
+use Rattle.words.specs.Keyword.{fixedWords}
 
 -- how long a name and a float's text may be
 abbrev pub longest-name : ℕ

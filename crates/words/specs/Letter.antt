@@ -1,5 +1,5 @@
 -- Digits, letters and the bytes of a name (01, "Tree records", the paragraph behind the table). Assumes nothing.
-use mathlib.Core.Bool.{Bool, _&&_, _||_, cond}
+use mathlib.Core.Bool.{Bool, _&&_, _||_}
 use Prim.Native.Nat.{ℕ}
 use Prim.Native.Char.{code}
 use lib.Dec.{leb, eqb}
@@ -15,7 +15,3 @@ letter x = between (code "a") (code "z") x || between (code "A") (code "Z") x
 
 unfoldable pub nameByte : ℕ → Bool
 nameByte x = letter x || digit x || eqb x (code "_")
-
--- the flaws of a byte in a name: none, or it is one itself
-unfoldable pub flaw : ℕ → ℕ
-flaw x = cond (nameByte x) 0 1

@@ -2,6 +2,5 @@ pub mod Bytes
 pub mod Letter
 pub mod Word
 pub mod Symbol
-pub mod Slot
-pub mod Table
+pub mod Keyword
 pub mod Form

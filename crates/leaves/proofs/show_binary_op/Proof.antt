@@ -1,6 +1,6 @@
 -- `leaves::show_binary_op` meets its contract: the row holds the operator. Assumes nothing.
 use mathlib.Core.Path.{_∙_, ap}
-use Rattle.words.specs.Table.{textAt}
+use Rattle.word_table.specs.Table.{textAt}
 use Rattle.text.specs.Text.{binary-symbol}
 use Rattle.text.specs.Reading.{binaryOp}
 use Rattle.leaves.proofs.Rows.{by-operator, binary-text}

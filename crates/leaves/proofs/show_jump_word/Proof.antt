@@ -1,6 +1,6 @@
 -- `leaves::show_jump_word` meets its contract: the row holds the text. Assumes nothing.
 use mathlib.Core.Path.{_∙_, ap}
-use Rattle.words.specs.Table.{textAt}
+use Rattle.word_table.specs.Table.{textAt}
 use Rattle.text.specs.Token.{Token}
 use Rattle.leaves.specs.Jump.{jumpWord}
 use Rattle.pen.proofs.Chain.{by-token}

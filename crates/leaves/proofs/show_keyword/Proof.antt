@@ -1,7 +1,7 @@
 -- `leaves::show_keyword` meets its contract. Assumes nothing.
 use mathlib.Core.Path.{_∙_, ap}
 use native.Mathlib.Omega.{arith}
-use Rattle.words.specs.Table.{textAt}
+use Rattle.word_table.specs.Table.{textAt}
 use Rattle.text.specs.Token.{Token}
 use Rattle.pen.proofs.Chain.{by-token, wrote-nothing}
 use Rattle.leaves.proofs.Rows.{keyword-text, no-keyword}

@@ -1,6 +1,6 @@
 -- `leaves::show_unary_op` meets its contract: the row holds the text. Assumes nothing.
 use mathlib.Core.Path.{_∙_, ap}
-use Rattle.words.specs.Table.{textAt}
+use Rattle.word_table.specs.Table.{textAt}
 use Rattle.text.specs.Token.{Token}
 use Rattle.text.specs.Text.{unary-symbol}
 use Rattle.text.specs.Reading.{unaryOp}

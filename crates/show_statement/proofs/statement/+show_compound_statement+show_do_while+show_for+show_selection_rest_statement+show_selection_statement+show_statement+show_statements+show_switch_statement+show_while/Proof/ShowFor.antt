@@ -6,8 +6,8 @@ use Rattle.text.specs.Text.{show-statement}
 use Rattle.leaves.proofs.Shown.{wrote, same-record, shown-length}
 use Rattle.show_statement.proofs.Statements as Statements
 use Rattle.pen.proofs.Pen.flush_space.Reads as flush-space-reads
-use Rattle.show_statement.proofs.show_for_init_statement.Reads as show-for-init-statement-reads
-use Rattle.show_statement.proofs.show_for_rest_statement.Reads as show-for-rest-statement-reads
+use Rattle.show_simple.proofs.show_for_init_statement.Reads as show-for-init-statement-reads
+use Rattle.show_simple.proofs.show_for_rest_statement.Reads as show-for-rest-statement-reads
 use Rattle.pen.proofs.Pen.write_statement_closing_parenthesis.Reads as write-statement-closing-parenthesis-reads
 use Rattle.pen.proofs.Pen.write_statement_opening_parenthesis.Reads as write-statement-opening-parenthesis-reads
 use Rattle.pen.proofs.Pen.write_str.Reads as write-str-reads

@@ -12,10 +12,10 @@ use Rattle.show_statement.proofs.Statements as Statements
 use Rattle.pen.proofs.Pen.flush_line.Reads as flush-line-reads
 use Rattle.leaves.proofs.past.Reads as past-reads
 use Rattle.records.proofs.record_at.Reads as record-at-reads
-use Rattle.show_statement.proofs.show_case_label.Reads as show-case-label-reads
+use Rattle.show_simple.proofs.show_case_label.Reads as show-case-label-reads
 use Rattle.show_declaration.proofs.show_declaration.Reads as show-declaration-reads
-use Rattle.show_statement.proofs.show_expression_statement.Reads as show-expression-statement-reads
-use Rattle.show_statement.proofs.show_jump_statement.Reads as show-jump-statement-reads
+use Rattle.show_simple.proofs.show_expression_statement.Reads as show-expression-statement-reads
+use Rattle.show_simple.proofs.show_jump_statement.Reads as show-jump-statement-reads
 use Rattle.show_statement.proofs.statement.show_compound_statement.Reads as show-compound-statement
 use Rattle.show_statement.proofs.statement.show_do_while.Reads as show-do-while
 use Rattle.show_statement.proofs.statement.show_for.Reads as show-for

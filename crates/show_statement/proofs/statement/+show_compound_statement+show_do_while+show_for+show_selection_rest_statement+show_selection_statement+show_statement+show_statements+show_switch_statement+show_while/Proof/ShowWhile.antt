@@ -5,7 +5,7 @@ use borrow.Author.Needs.{needs}
 use Rattle.text.specs.Text.{show-statement}
 use Rattle.leaves.proofs.Shown.{wrote, same-record, shown-length}
 use Rattle.show_statement.proofs.Statements as Statements
-use Rattle.show_statement.proofs.show_condition.Reads as show-condition-reads
+use Rattle.show_simple.proofs.show_condition.Reads as show-condition-reads
 use Rattle.pen.proofs.Pen.write_statement_closing_parenthesis.Reads as write-statement-closing-parenthesis-reads
 use Rattle.pen.proofs.Pen.write_statement_opening_parenthesis.Reads as write-statement-opening-parenthesis-reads
 use Rattle.pen.proofs.Pen.write_str.Reads as write-str-reads

@@ -1,0 +1,137 @@
+// Whether a text has the form of a name, which no fixed word has. The table of words is lent; it tells a name's bytes from others too.
+ghost use mathlib.Core.Path.{_≡_};
+ghost use Prim.Native.Nat.{_+_, _<_, _≤_};
+ghost use lib.ListN.{length, take, drop};
+ghost use Rattle.words.specs.Form as Form;
+ghost use Rattle.words.specs.Keyword.{fixedWords};
+ghost use Rattle.word_table.specs.Slot.{byteOrLast, slot};
+ghost use Rattle.word_table.specs.Table as Table;
+use word_table::rows::FLAWS;
+use word_table::rows::SLOTS;
+use word_table::rows::Words;
+
+// How many bytes of a name are looked at in one loop, whose length is constant, so that it compiles to no loop.
+const AT_ONCE: usize = 8;
+
+const LONGEST_NAME: usize = 255;
+
+// The byte i of s, or its last.
+fn byte_or_last(s: &[u8], i: usize) -> u8
+    requires { ⌜ 0 < length (now s) ⌝ }
+    ensures { λ r. ⌜ r ≡ byteOrLast (now (s .entry)) i ⌝ }
+{
+    let last = s.len() - 1;
+    if i < last {
+        return s[i];
+    }
+    s[last]
+}
+
+// 0 for a byte that a name may have, 1 for any other, as the lent table has it. (To compare it with the bounds of letters and digits takes twice as long.)
+fn flaws_of(table: &Words, x: u8) -> u8
+    requires { ⌜ now table ≡ Table.table ⌝ }
+    ensures { λ r. ⌜ (r ≡ Table.flaw x) × (r ≤ 1) ⌝ }
+{
+    let bytes: &[u8] = table;
+    bytes[FLAWS + word_table::wide(x)]
+}
+
+// Whether all bytes are a name's, where they are few: the last is looked at again and again instead of a branch on the length.
+fn few_name_bytes(table: &Words, s: &[u8]) -> bool
+    requires { ⌜ (now table ≡ Table.table) × (0 < length (now s)) × (length (now s) ≤ 8) ⌝ }
+    ensures { λ r. ⌜ r ≡ Form.all Form.nameByte (now (s .entry)) ⌝ }
+{
+    let mut flaws: u8 = 0;
+    let mut i: usize = 0;
+    while i < AT_ONCE {
+        flaws = flaws + flaws_of(table, byte_or_last(s, i));
+        i += 1;
+    }
+    flaws == 0
+}
+
+// Whether the 8 bytes from `start` on are a name's.
+fn next_name_bytes(table: &Words, s: &[u8], start: usize) -> bool
+    requires { ⌜ (now table ≡ Table.table) × (start + 8 ≤ length (now s)) ⌝ }
+    ensures { λ r. ⌜ r ≡ Form.all Form.nameByte (take 8 (drop start (now (s .entry)))) ⌝ }
+{
+    let mut flaws: u8 = 0;
+    let mut i: usize = 0;
+    while i < AT_ONCE {
+        flaws = flaws + flaws_of(table, s[start + i]);
+        i += 1;
+    }
+    flaws == 0
+}
+
+// No early return: a name is short, and a branch costs more than it saves. The last 8 bytes may be looked at twice.
+fn all_name_bytes(table: &Words, s: &[u8]) -> bool
+    requires { ⌜ (now table ≡ Table.table) × (0 < length (now s)) ⌝ }
+    ensures { λ r. ⌜ r ≡ Form.all Form.nameByte (now (s .entry)) ⌝ }
+{
+    let n = s.len();
+    if n <= AT_ONCE {
+        return few_name_bytes(table, s);
+    }
+    let mut ok = true;
+    let mut i: usize = 0;
+    while i < n - AT_ONCE {
+        ok = ok & next_name_bytes(table, s, i);
+        i += AT_ONCE;
+    }
+    ok & next_name_bytes(table, s, n - AT_ONCE)
+}
+
+fn slot_of(s: &[u8]) -> usize
+    requires { ⌜ 2 ≤ length (now s) ⌝ }
+    ensures { λ r. ⌜ r ≡ slot (now (s .entry)) ⌝ }
+{
+    let n = s.len();
+    let front = 16 * (word_table::wide(s[0]) + word_table::wide(byte_or_last(s, 3)));
+    (front
+        + 64 * word_table::wide(s[n - 1])
+        + word_table::wide(s[n - 2])
+        + word_table::wide(byte_or_last(s, 4)))
+        % 512
+}
+
+// Whether s is a fixed word. Only the word of its slot is compared.
+pub fn is_fixed_word(table: &Words, s: &[u8]) -> bool
+    requires { ⌜ now table ≡ Table.table ⌝ }
+    ensures { λ r. ⌜ r ≡ Form.oneOf fixedWords (now (s .entry)) ⌝ }
+{
+    if s.len() < 2 {
+        return false;
+    }
+    let bytes: &[u8] = table;
+    let k = word_table::wide(bytes[SLOTS + slot_of(s)]);
+    words::same(word_table::row(table, k), s)
+}
+
+// Whether s has the form of a name, with the table lent.
+pub fn name_form(table: &Words, s: &[u8]) -> bool
+    requires { ⌜ now table ≡ Table.table ⌝ }
+    ensures { λ r. ⌜ r ≡ Form.nameForm (now (s .entry)) ⌝ }
+{
+    if s.len() == 0 {
+        return false;
+    }
+    if LONGEST_NAME < s.len() {
+        return false;
+    }
+    if words::is_digit(s[0]) {
+        return false;
+    }
+    if !all_name_bytes(table, s) {
+        return false;
+    }
+    !is_fixed_word(table, s)
+}
+
+// Whether s has the form of a name. It makes the table for itself, which costs more than the answer: who asks often lends one to `name_form`.
+pub fn is_name(s: &[u8]) -> bool
+    ensures { λ r. ⌜ r ≡ Form.nameForm (now (s .entry)) ⌝ }
+{
+    let t = word_table::table();
+    name_form(&t, s)
+}
