@@ -1,12 +1,12 @@
--- Measured, then written: a printer that starts at the front with a fresh state leaves its pen as far on as the definition's text is long, whatever the
--- room, and where the text fits it stands at the front of the room. Assumes nothing.
+-- Drafted, then put: a printer that starts at the front with a fresh state leaves its pen as far on as the definition's text is long, whatever the
+-- room, and where the text fits it stands at the front of the room; so a draft measures it, and a draft that it fits can be copied. Assumes nothing.
 use mathlib.Core.Path.{_≡_, refl, sym, ap, subst, _∙_}
 use mathlib.Core.List.{List, [], _∷_, _++_}
 use Prim.Native.Nat.{ℕ, _<_, _≤_}
 use native.Mathlib.Nat.{zero-add}
 use native.Mathlib.Omega.{arith}
-use lib.ListN.{length, drop}
-use lib.Seq.{sets-eq}
+use lib.ListN.{length, take, drop}
+use lib.Seq.{sets, sets-eq, take-append-seam}
 use borrow.Author.Tests.{le-leb, lt-leb}
 use Rattle.settings.specs.declared.Settings.{Settings}
 use Rattle.settings.specs.State.{fresh}
@@ -17,7 +17,7 @@ use Rattle.text.specs.Pen.{text}
 use Rattle.text.specs.Reading.{Reader, from}
 use Rattle.pen.specs.declared.Pen.{Pen}
 use Rattle.pen.specs.Free.{Free}
-use Rattle.pen.proofs.Written.{pen-text, room-text}
+use Rattle.pen.proofs.Written.{ran-length, pen-text, room-text}
 use Rattle.leaves.specs.Shown.{Shows}
 use Rattle.glsl.specs.declared.Printed.{Printed}
 use Rattle.glsl.specs.declared.Printed.the-variants.{Text, Refused}
@@ -42,11 +42,6 @@ module _ (text room : List ℕ) where
   unfolding fitted
   too-small h = simp (lt-leb (length text) (length room) h)
 
--- nothing was written into the empty part, and the room is as it was
-pub unlent : (ys room : List ℕ) → length ys ≡ 0 → ys ++ room ≡ room
-unlent [] room e = refl
-unlent (y ∷ ys) room e = absurd (omega arith)
-
 -- what is shown from the first record on
 module _ {A : Type 0} (show : A → List Command) (q : Reader A) (s : Settings) (records names : List ℕ) where
   abbrev commands : List Command
@@ -59,19 +54,35 @@ module _ {A : Type 0} (show : A → List Command) (q : Reader A) (s : Settings) 
     measured : {room room′ : List ℕ} {p : Pen} → Shows show q s records names room start room′ p → p .at ≡ length shown
     measured a = ap (λ (x : Pen). x .at) (pen-text (a .ran) free) ∙ zero-add (length shown)
 
+    -- laid at the front of a room where it fits, and nothing behind it
+    front-laid : (room : List ℕ) → length shown ≤ length room → sets room 0 shown ≡ shown ++ drop (length shown) room
+    front-laid room h = sets-eq shown room 0 (omega arith) ∙ ap (λ (n : ℕ). shown ++ drop n room) (zero-add (length shown))
+
     stands : {room room′ : List ℕ} {p : Pen} → Shows show q s records names room start room′ p → length shown ≤ length room → room′ ≡ shown ++ drop (length shown) room
-    stands {room = room} a h =
-        room-text (a .ran) free (omega arith) ∙ sets-eq shown room 0 (omega arith) ∙ ap (λ (n : ℕ). shown ++ drop n room) (zero-add (length shown))
+    stands {room = room} a h = room-text (a .ran) free (omega arith) ∙ front-laid room h
 
-    -- measured over an empty part, then, from the same start, written or not; the room that lent the part is as it was
-    module _ (room : List ℕ) {ys : List ℕ} {p₀ p : Pen} (began : p₀ ≡ start) (measuring : Shows show q s records names [] p₀ ys p) where
+    -- drafted, then, from the same start, refused, copied or written again
+    module _ (room : List ℕ) {draft draft′ : List ℕ} {p₀ p : Pen} (began : p₀ ≡ start) (drafting : Shows show q s records names draft p₀ draft′ p) where
+      drafted : Shows show q s records names draft start draft′ p
+      drafted = subst (λ (x : Pen). Shows show q s records names draft x draft′ p) began drafting
+
       long : p .at ≡ length shown
-      long = measured (subst (λ (x : Pen). Shows show q s records names [] x ys p) began measuring)
+      long = measured drafted
 
-      pub not-put : {room′ : List ℕ} → room′ ≡ room → length room < p .at → Prints (fitted shown room) shown room room′ (Refused RoomTooSmall (p .at))
-      not-put same h = refused RoomTooSmall (p .at) (too-small shown room (omega (arith, long)) ∙ ap (Refused RoomTooSmall) (sym long)) same
+      put : {room′ : List ℕ} → p .at ≤ length room → room′ ≡ shown ++ drop (length shown) room → Prints (fitted shown room) shown room room′ (Text (p .at))
+      put h there = printed (p .at) (fits shown room (omega (arith, long)) ∙ ap Text (sym long)) (there ∙ ap (λ (n : ℕ). shown ++ drop n room) (sym long))
 
-      pub put : {lent room′ : List ℕ} {p′ : Pen} → lent ≡ room → p .at ≤ length room → Shows show q s records names lent p₀ room′ p′ → Prints (fitted shown room) shown room room′ (Text (p .at))
-      put {lent = lent} {room′ = room′} {p′ = p′} same h writing =
-          let a = subst (λ (l : List ℕ). Shows show q s records names l start room′ p′) same (subst (λ (x : Pen). Shows show q s records names lent x room′ p′) began writing) in
-          printed (p .at) (fits shown room (omega (arith, long)) ∙ ap Text (sym long)) (stands a (omega (arith, long)) ∙ ap (λ (n : ℕ). shown ++ drop n room) (sym long))
+      -- the front of a draft that is long enough is the text
+      front-drafted : p .at ≤ length draft′ → take (p .at) draft′ ≡ shown
+      front-drafted h =
+          ap (λ (n : ℕ). take n draft′) long ∙ ap (take (length shown)) (stands drafted (omega (arith, long, ran-length (drafted .ran)))) ∙ take-append-seam shown (drop (length shown) draft)
+
+      pub not-put : length room < p .at → Prints (fitted shown room) shown room room (Refused RoomTooSmall (p .at))
+      not-put h = refused RoomTooSmall (p .at) (too-small shown room (omega (arith, long)) ∙ ap (Refused RoomTooSmall) (sym long)) refl
+
+      pub copied : {room′ : List ℕ} → p .at ≤ length room → p .at ≤ length draft′ → room′ ≡ sets room 0 (take (p .at) draft′) → Prints (fitted shown room) shown room room′ (Text (p .at))
+      copied h h′ copying = put h (copying ∙ ap (sets room 0) (front-drafted h′) ∙ front-laid room (omega (arith, long)))
+
+      pub rewritten : {room′ : List ℕ} {p′ : Pen} → p .at ≤ length room → Shows show q s records names room p₀ room′ p′ → Prints (fitted shown room) shown room room′ (Text (p .at))
+      rewritten {room′ = room′} {p′ = p′} h writing =
+          put h (stands (subst (λ (x : Pen). Shows show q s records names room x room′ p′) began writing) (omega (arith, long)))

@@ -18,6 +18,13 @@ use settings::Settings;
 use settings::SettingsRead;
 use word_table::rows::Words;
 
+// Bytes of the records of a tree that has few (128), and of a draft of the text for such trees and for larger ones.
+const FEW: usize = 1536;
+
+const SHORT: usize = 2048;
+
+const LONG: usize = 65536;
+
 // What is printed. The functions within take it, so that each is written and proved once.
 enum Root {
     Unit,
@@ -70,21 +77,61 @@ fn show_root(
     }
 }
 
-// Measures the text over an empty part of the room, and writes it where it fits. That it meets no cap of the pen is what accepted records and
-// settings give.
-fn put(root: Root, s: Settings, records: &[u8], names: &[u8], room: &mut [u8]) -> Printed
+// Writes the text into the draft, which also measures it. Where it fits the room it is copied there, or written again if the draft is too short
+// for it. (A refusal alters no byte of the room, so nothing may be written there before.) That it meets no cap of the pen is what accepted records and settings give.
+fn put_by(
+    root: Root,
+    s: Settings,
+    records: &[u8],
+    names: &[u8],
+    draft: &mut [u8],
+    room: &mut [u8],
+) -> Printed
     requires { ⌜ Free s (rootCommands root s (now records) (now names)) start ⌝ }
     ensures { λ r. let t = text s (rootCommands root s (now (records .entry)) (now (names .entry))) fresh in ⌜ Prints (fitted t (now (room .entry))) t (now (room .entry)) (now (room .exit)) r ⌝ }
 {
     let t = word_table::table();
     let pen = start(s);
-    let measured = show_root(root, s, &t, records, names, &mut room[..0], pen);
-    let n = measured.at as usize;
+    let drafted = show_root(root, s, &t, records, names, draft, pen);
+    let n = drafted.at as usize;
     if room.len() < n {
         return Printed::Refused(Refusal::RoomTooSmall, n);
     }
-    show_root(root, s, &t, records, names, room, pen);
+    if draft.len() < n {
+        show_root(root, s, &t, records, names, room, pen);
+        return Printed::Text(n);
+    }
+    room::copy(room, 0, &draft[..n]);
     Printed::Text(n)
+}
+
+// A tree of few records, whose text is drafted in short.
+fn put_few(root: Root, s: Settings, records: &[u8], names: &[u8], room: &mut [u8]) -> Printed
+    requires { ⌜ Free s (rootCommands root s (now records) (now names)) start ⌝ }
+    ensures { λ r. let t = text s (rootCommands root s (now (records .entry)) (now (names .entry))) fresh in ⌜ Prints (fitted t (now (room .entry))) t (now (room .entry)) (now (room .exit)) r ⌝ }
+{
+    let mut draft = [0u8; SHORT];
+    put_by(root, s, records, names, &mut draft, room)
+}
+
+// A tree of more records.
+fn put_many(root: Root, s: Settings, records: &[u8], names: &[u8], room: &mut [u8]) -> Printed
+    requires { ⌜ Free s (rootCommands root s (now records) (now names)) start ⌝ }
+    ensures { λ r. let t = text s (rootCommands root s (now (records .entry)) (now (names .entry))) fresh in ⌜ Prints (fitted t (now (room .entry))) t (now (room .entry)) (now (room .exit)) r ⌝ }
+{
+    let mut draft = [0u8; LONG];
+    put_by(root, s, records, names, &mut draft, room)
+}
+
+// The text for the room, by a draft that most texts of so many records fit.
+fn put(root: Root, s: Settings, records: &[u8], names: &[u8], room: &mut [u8]) -> Printed
+    requires { ⌜ Free s (rootCommands root s (now records) (now names)) start ⌝ }
+    ensures { λ r. let t = text s (rootCommands root s (now (records .entry)) (now (names .entry))) fresh in ⌜ Prints (fitted t (now (room .entry))) t (now (room .entry)) (now (room .exit)) r ⌝ }
+{
+    if records.len() <= FEW {
+        return put_few(root, s, records, names, room);
+    }
+    put_many(root, s, records, names, room)
 }
 
 // The text is at the front of the room, or nothing is altered.
