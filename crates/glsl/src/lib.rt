@@ -18,12 +18,13 @@ use settings::Settings;
 use settings::SettingsRead;
 use word_table::rows::Words;
 
-// Bytes of the records of a tree that has few (128), and of a draft of the text for such trees and for larger ones.
-const FEW: usize = 1536;
+// A draft has 8 bytes for each record, 4,096 at most: longer texts are rare. It is zeroed at each call, so a tree of up to 512 records (6,144 bytes) has a
+// short one.
+const FEW: usize = 6144;
 
-const SHORT: usize = 2048;
+const SHORT: usize = 4096;
 
-const LONG: usize = 65536;
+const LONG: usize = 32768;
 
 // What is printed. The functions within take it, so that each is written and proved once.
 enum Root {
@@ -77,8 +78,8 @@ fn show_root(
     }
 }
 
-// Writes the text into the draft, which also measures it. Where it fits the room it is copied there, or written again if the draft is too short
-// for it. (A refusal alters no byte of the room, so nothing may be written there before.) That it meets no cap of the pen is what accepted records and settings give.
+// Writes the text into the draft, which also measures it. A text that fits the room is copied there, or written again if it is longer than the draft:
+// a refusal alters no byte, so nothing can be written into the room before. That no cap of the pen is met is what accepted records and settings give.
 fn put_by(
     root: Root,
     s: Settings,
@@ -105,33 +106,17 @@ fn put_by(
     Printed::Text(n)
 }
 
-// A tree of few records, whose text is drafted in short.
-fn put_few(root: Root, s: Settings, records: &[u8], names: &[u8], room: &mut [u8]) -> Printed
-    requires { ⌜ Free s (rootCommands root s (now records) (now names)) start ⌝ }
-    ensures { λ r. let t = text s (rootCommands root s (now (records .entry)) (now (names .entry))) fresh in ⌜ Prints (fitted t (now (room .entry))) t (now (room .entry)) (now (room .exit)) r ⌝ }
-{
-    let mut draft = [0u8; SHORT];
-    put_by(root, s, records, names, &mut draft, room)
-}
-
-// A tree of more records.
-fn put_many(root: Root, s: Settings, records: &[u8], names: &[u8], room: &mut [u8]) -> Printed
-    requires { ⌜ Free s (rootCommands root s (now records) (now names)) start ⌝ }
-    ensures { λ r. let t = text s (rootCommands root s (now (records .entry)) (now (names .entry))) fresh in ⌜ Prints (fitted t (now (room .entry))) t (now (room .entry)) (now (room .exit)) r ⌝ }
-{
-    let mut draft = [0u8; LONG];
-    put_by(root, s, records, names, &mut draft, room)
-}
-
-// The text for the room, by a draft that most texts of so many records fit.
+// The text in the room, where it fits, by a draft on the stack.
 fn put(root: Root, s: Settings, records: &[u8], names: &[u8], room: &mut [u8]) -> Printed
     requires { ⌜ Free s (rootCommands root s (now records) (now names)) start ⌝ }
     ensures { λ r. let t = text s (rootCommands root s (now (records .entry)) (now (names .entry))) fresh in ⌜ Prints (fitted t (now (room .entry))) t (now (room .entry)) (now (room .exit)) r ⌝ }
 {
     if records.len() <= FEW {
-        return put_few(root, s, records, names, room);
+        let mut short = [0u8; SHORT];
+        return put_by(root, s, records, names, &mut short, room);
     }
-    put_many(root, s, records, names, room)
+    let mut long = [0u8; LONG];
+    put_by(root, s, records, names, &mut long, room)
 }
 
 // The text is at the front of the room, or nothing is altered.
