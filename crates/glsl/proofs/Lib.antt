@@ -1,4 +1,4 @@
-pub mod Measured
+pub mod Drafted
 pub mod Outcome
 pub mod Accepted
 pub mod Question

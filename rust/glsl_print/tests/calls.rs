@@ -177,7 +177,7 @@ fn the_deepest_unit_fits_the_stack_that_is_asked_for() {
     let compounds = [vec![record(60, 0, 1, 0, 0); 197], vec![plain(60, 0)]].concat();
     let records = [head, compounds].concat().concat();
     let print = move || print_unit_growing(&TIGHT, &records, NAMES, &mut Vec::new()).map(str::len);
-    let thread = std::thread::Builder::new().stack_size(256 << 10).spawn(print).expect("a thread");
+    let thread = std::thread::Builder::new().stack_size(320 << 10).spawn(print).expect("a thread");
     let text = "void f()".len() + 2 * 198;
     assert_eq!(thread.join().expect("it ends"), Ok(text));
 }

@@ -5,7 +5,7 @@ use Rattle.settings.specs.Settings.{readSettings}
 use Rattle.accept.specs.declared.Refusal.the-variants as Why
 use Rattle.accept.specs.Check.{check}
 use Rattle.glsl.specs.Root.{rootClass, rootText}
-use Rattle.glsl.proofs.Measured.{refused}
+use Rattle.glsl.proofs.Drafted.{refused}
 use Rattle.glsl.proofs.Outcome.{settings-refused, check-refused, accepted-put}
 use Rattle.glsl.proofs.Accepted.{root-text, never-stops}
 use borrow.Author.Needs.{needs}

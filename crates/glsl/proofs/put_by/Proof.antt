@@ -4,7 +4,7 @@ use native.Mathlib.Omega.{arith}
 use lib.ListN.{length}
 use lib.Seq.{length-take-le}
 use Rattle.glsl.specs.Root.{rootReader, rootShow}
-use Rattle.glsl.proofs.Measured.{not-put, copied, rewritten}
+use Rattle.glsl.proofs.Drafted.{not-put, copied, rewritten}
 use borrow.Author.Needs.{needs}
 use Rattle.glsl.proofs.put_by.Statement.{statement}
 use Rattle.glsl.proofs.put_by.Tie as tie
