@@ -19,51 +19,25 @@ use Rattle.accepted.proofs.Each.{each-record}
 use Rattle.accepted.proofs.Sizes.{few-records}
 use Rattle.text.specs.Tree.{Expr}
 use Rattle.text.specs.Reading.{Read, Item, first, items, from, itemAt, itemOf, exprOf, expr, binaryOp}
-use Rattle.text.specs.Joined.{joins, joined, joinedAnswer}
+use Rattle.text.specs.Joined.{joins, joins-right, joined, joinedAnswer}
 use Rattle.text.proofs.At.{from-in, from-drop}
 use Rattle.formed.proofs.Kind.{rec}
 use Rattle.formed.proofs.Formed.{node-reads, expr-size}
 use Rattle.joined.specs.declared.Head.{Head}
 use Rattle.joined.specs.Stack.{State, walk, bareSign, joinsAt, anyJoined, additive}
-use Rattle.joined.proofs.Anywhere.{joins-there, anywhere, at-record}
 use Rattle.joined.proofs.Heads.{head-at}
 use Rattle.text.proofs.ByKind.{either}
 use Rattle.joined.proofs.Pairs.{tested}
 use Rattle.joined.proofs.Stacked.{before, before-in, node-stack}
 
--- no other kind than 8 is a binary expression
-record Quiet (x : Read Expr) : Type 0 where
-  pub is : joins-there (x .tree) ≡ false
-
-not-binary : (ns : List ℕ) (k v n a b : ℕ) (L : List Item) → eqb k 8 ≡ false → Quiet (exprOf ns (rec k v n a b) L)
-unfolding exprOf joins-there
-not-binary ns k v n a b L e =
-    rw e
-    (either Quiet L (eqb k 1) _ _ (record { is = refl })
-    (either Quiet L (eqb k 2) _ _ (record { is = refl })
-    (either Quiet L (eqb k 3) _ _ (record { is = refl })
-    (either Quiet L (eqb k 4) _ _ (record { is = refl })
-    (either Quiet L (eqb k 5) _ _ (record { is = refl })
-    (either Quiet L (eqb k 6) _ _ (record { is = refl })
-    (either Quiet L (eqb k 7) _ _ (record { is = refl })
-    (either Quiet L (eqb k 9) _ _ (record { is = refl })
-    (either Quiet L (eqb k 10) _ _ (record { is = refl })
-    (either Quiet L (eqb k 11) _ _ (record { is = refl })
-    (either Quiet L (eqb k 12) _ _ (record { is = refl })
-    (either Quiet L (eqb k 13) _ _ (record { is = refl })
-    (either Quiet L (eqb k 14) _ _ (record { is = refl })
-    (either Quiet L (eqb k 15) _ _ (record { is = refl })
-    (either Quiet L (eqb k 16) _ _ (record { is = refl })
-    (record { is = refl }))))))))))))))))
-
 module _ (rs ns : List ℕ) (byte : (p : ℕ) → getD rs p 0 < 256) where
   -- the walk's test of a record at i, and whether the expression read there joins its right operand, have one answer
   abbrev Alike : ℕ → Record → Type 0
-  Alike i r = joinsAt r (getD (before rs (i + 1) .stack) 1 0) ≡ joins-there (exprOf ns r (from rs ns (i + 1)) .tree)
+  Alike i r = joinsAt r (getD (before rs (i + 1) .stack) 1 0) ≡ joins-right r (from rs ns (i + 1))
 
   -- a binary operator: its right operand stands behind its left one, and its byte is the second of the stack
   binary-here : (v n a b left i m : ℕ) → each (node rs ns left) (childrenOf (rec 8 v n a b)) (i + 1) ≡ Next m → v ≤ 18 → Alike i (rec 8 v n a b)
-  unfolding rows shapeOf classes exprOf joins-there
+  unfolding rows shapeOf classes
   binary-here v n a b left i m e h =
       let l = bind-next (node rs ns left Class.expr (i + 1)) (each (node rs ns left) (Class.expr ∷ [])) m e in
       let k = l .0 in
@@ -92,27 +66,19 @@ module _ (rs ns : List ℕ) (byte : (p : ℕ) → getD rs p 0 < 256) where
 
       go : (k v n a b : ℕ) (t : Bool) → eqb k 8 ≡ t → Fits k v n a b
       go k v n a b true e = subst (λ (k : ℕ). Fits k v n a b) (sym (eqb-true k 8 e)) (binary-here v n a b left i m)
-      go k v n a b false e = λ h l. rw e (sym (not-binary ns k v n a b (from rs ns (i + 1)) e .is))
+      go k v n a b false e = λ h l. rw e refl
 
   module _ (m : ℕ) (accepted : check rs ns Class.expr ≡ Next m) where
     -- what is found from record i on, n records before the end
-    found-from : (n i : ℕ) → i + n ≡ recordCount rs → before rs i .found ≡ anywhere (from rs ns i)
-    unfolding walk from items itemOf
+    found-from : (n i : ℕ) → i + n ≡ recordCount rs → before rs i .found ≡ joined n rs ns i
+    unfolding walk joined
     found-from zero i e = let z : recordCount rs - i ≡ 0 = omega arith in rw z refl
     found-from (suc n) i e =
         let h : i < recordCount rs = omega arith in
         let x = each-record rs ns Class.expr m accepted i h in
         ap (λ (s : State). s .found) (before-in rs i h)
         ∙ ap (λ (b : Bool). b || before rs (i + 1) .found) (joins-here (x .left) (x .class) i (x .next) (x .accepted))
-        ∙ ap (λ (b : Bool). joins-there (exprOf ns (recordAt rs i) (from rs ns (i + 1)) .tree) || b) (found-from n (i + 1) (omega arith))
-        ∙ ap anywhere (sym (from-in rs ns i h))
-
-    nothing-left : drop (itemAt rs ns 0 .expr .size) (from rs ns 0) ≡ []
-    unfolding from items
-    nothing-left =
-        let s = itemAt rs ns 0 .expr .size in
-        let z : recordCount rs - (0 + s) ≡ 0 = omega (arith, expr-size rs ns byte m accepted) in
-        from-drop rs ns s 0 ∙ ap (λ (n : ℕ). items n rs ns (0 + s)) z
+        ∙ ap (λ (b : Bool). joins-right (recordAt rs i) (from rs ns (i + 1)) || b) (found-from n (i + 1) (omega arith))
 
     pub answer : anyJoined rs ≡ joinedAnswer rs ns
     unfolding anyJoined joinedAnswer
@@ -121,6 +87,3 @@ module _ (rs ns : List ℕ) (byte : (p : ℕ) → getD rs p 0 < 256) where
         ap (λ (b : Bool). cond b false (walk rs (recordCount rs) 0 .found)) (le-ltb most-records (recordCount rs) (few-records rs ns Class.expr m accepted))
         ∙ ap (λ (n : ℕ). walk rs n 0 .found) whole
         ∙ found-from (recordCount rs) 0 (zero-add (recordCount rs))
-        ∙ at-record rs ns 0 .expr .took .split
-        ∙ ap (λ (L : List Item). joined (itemAt rs ns 0 .expr .tree) || anywhere L) nothing-left
-        ∙ or-false (joined (itemAt rs ns 0 .expr .tree))

@@ -12,7 +12,7 @@ use Rattle.text.specs.Tree.{Expr, FunIdentifier}
 use Rattle.text.specs.Text.{precedence}
 use Rattle.text.specs.Reading.{Read, Item, Reader, first, items, from, itemAt, itemOf, exprOf, expr, callee, type, give, _and_, unaryOp}
 use Rattle.joined.specs.declared.Head.{Head}
-use Rattle.precedence.specs.Strength.{strengthOf}
+use Rattle.precedence.specs.Precedence.{precedenceOf}
 use Rattle.joined.specs.Stack.{unarySign, bareSign, firstBelow, signOf, headOf, no-head, walk}
 use Rattle.text.proofs.ByKind.{of-kind}
 use Rattle.joined.proofs.Signs.{unary-sign, sign, sign-callee, head}
@@ -60,7 +60,7 @@ module _ (ns : List ℕ) (k v n a b : ℕ) (L : List Item) (type-first : first L
       go false e = refl
 
   head-here : Headed (F k) (exprOf ns (rec k v n a b) L)
-  unfolding exprOf headOf signOf firstBelow strengthOf sign precedence
+  unfolding exprOf headOf signOf firstBelow precedenceOf sign precedence
   head-here =
       row-of 1 _ _ (atom refl refl) λ e1.
       row-of 2 _ _ (record { is = refl }) λ e2.

@@ -1,4 +1,3 @@
-pub mod Anywhere
 pub mod Answer
 pub mod Heads
 pub mod Pairs

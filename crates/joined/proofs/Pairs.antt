@@ -10,7 +10,7 @@ use Rattle.formed.specs.Formed.{Formed-expr}
 use Rattle.formed.proofs.Kind.{rec}
 use Rattle.formed.proofs.Span.{Span, _then_, at}
 use Rattle.text.specs.Tree.{BinaryOp, Expr}
-use Rattle.text.specs.Text.{precedence, binary-precedence, binary-symbol}
+use Rattle.text.specs.Text.{precedence, binary-precedence, binary-op}
 use Rattle.text.specs.Reading.{binaryOp}
 use Rattle.text.specs.Joined.{begins, op-begins, joins}
 use Rattle.joined.specs.Stack.{bareSign, joinsAt, additive}
@@ -55,7 +55,7 @@ module _ (n a b : ℕ) (r : Expr) (formed : Formed-expr r) where
       go false = not-that 0 s refl h
 
   variants : Span Tested 0 19
-  unfolding Span joinsAt binaryOp joins op-begins binary-symbol binary-precedence symbolText
+  unfolding Span joinsAt binaryOp joins op-begins binary-op symbolText
   variants =
       other BinaryOp.Or refl
       then other BinaryOp.Xor refl

@@ -10,7 +10,7 @@ use lib.ListN.{length, replicate, length-append, length-replicate}
 use borrow.Author.Tests.{eq-eqb, ne-eqb, lt-ltb, le-ltb}
 use Rattle.records.specs.declared.Record.{Record}
 use Rattle.shapes.specs.Shape.{Shape, Part, lastVariant, classes}
-use Rattle.shapes.specs.Table.{cell, classOf, partOf, times, partsAt, lastAt, rowAt, shapeAt, Shaped, firstClassRow}
+use Rattle.shapes.specs.Table.{cell, classOf, partOf, times, partsAt, lastAt, rowAt, shapeAt, Shaped, first-class-row}
 use Rattle.accept.proofs.Rows.{row-within, row-shape}
 use Rattle.joined.specs.Stack.{childCount}
 
@@ -77,7 +77,7 @@ module _ {t : List ℕ} (shaped : Shaped t) (r : Record) (byte : r .kind < 256) 
   listed : r .variant ≤ last → r .variant ≤ lastVariant (r .kind)
   listed h = subst (λ (n : ℕ). r .variant ≤ n) (e ∙ shaped .lasts (r .kind) byte) h
 
-  pub within : {row : ℕ} → r .variant ≤ last → row ≡ rowAt t (r .kind) (r .variant) → row + 8 ≤ firstClassRow
+  pub within : {row : ℕ} → r .variant ≤ last → row ≡ rowAt t (r .kind) (r .variant) → row + 8 ≤ first-class-row
   within h q = row-within shaped (r .kind) (r .variant) byte (listed h) q
 
   pub counted : {row n : ℕ} → r .variant ≤ last → row ≡ rowAt t (r .kind) (r .variant) → n ≡ length (classes (r .count) (shapeAt t row .parts)) → n ≡ childCount r

@@ -13,10 +13,11 @@ use Rattle.shapes.specs.Shape.{lastVariant}
 use Rattle.accept.specs.Check.{childrenOf, most-records}
 use Rattle.text.specs.Text.{postfix-precedence, binary-precedence, ternary-precedence, assignment-precedence, comma-precedence}
 use Rattle.text.specs.Reading.{binaryOp}
-use Rattle.precedence.specs.Strength.{strengthOf}
+use Rattle.precedence.specs.Precedence.{precedenceOf}
 use Rattle.joined.specs.declared.Head.{Head}
 
--- its first operand is bare if it binds below this (01, "Rules of the text"); 0 where it has none, and for a callee, which is always bare
+-- the first operand of a record is bare if it binds below this (01, "Rules of the text"); 0 where the record has none, and for a callee, which is always bare. The kinds:
+-- Binary, Ternary, Assignment, Bracket, Dot, PostInc, PostDec, Comma.
 unfoldable pub firstBelow : (kind variant : ℕ) → ℕ
 firstBelow k v =
     cond (eqb k 8) (binary-precedence (binaryOp v) + 1)
@@ -48,20 +49,23 @@ signOf r next =
     (cond (eqb (r .kind) 12) (next .sign) (bareSign next (firstBelow (r .kind) (r .variant)))))
 
 unfoldable pub headOf : Record → (next : Head) → Head
-headOf r next = record { sign = signOf r next; strength = strengthOf (r .kind) (r .variant) }
+headOf r next = record { sign = signOf r next; strength = precedenceOf (r .kind) (r .variant) }
 
--- a binary + or -, and its right operand's byte
+-- a binary + (variant 14) or - (15), and its right operand's byte
 unfoldable pub joinsAt : Record → ℕ → Bool
 joinsAt r right = eqb (r .kind) 8 && (eqb (r .variant) 14 && eqb right (code "+") || eqb (r .variant) 15 && eqb right (code "-"))
 
+-- none where the variant is beyond the last, which the check refuses: then the table has no row
 unfoldable pub childCount : Record → ℕ
 childCount r = cond (ltb (lastVariant (r .kind)) (r .variant)) 0 (length (childrenOf r))
 
--- The state before a record: the head of the record behind it; for each tree behind it, up to the next of its parents, the sign that it begins with
--- where it is the right operand of a + or -; was there one that joins?
+-- the state before a record
 pub record State : Type 0 where
+  -- the head of the record behind it
   pub head : Head
+  -- for each tree behind it, nearest first, the sign that it would begin with as the right operand of a + or -; trees that are children of one tree are taken off for it
   pub stack : List ℕ
+  -- was there a binary operator that joins?
   pub found : Bool
 
 abbrev pub no-head : Head
@@ -70,7 +74,7 @@ no-head = record { sign = 0; strength = 0 }
 abbrev pub start : State
 start = record { head = no-head; stack = []; found = false }
 
--- a right operand of + and - is bare below it
+-- a right operand of + and - is bare below it (01, "Rules of the text")
 abbrev pub additive : ℕ
 additive = 5
 
@@ -86,5 +90,6 @@ unfoldable pub walk : List ℕ → ℕ → ℕ → State
 walk records zero i = start
 walk records (suc n) i = step (recordAt records i) (walk records n (i + 1))
 
+-- no beyond the most records that are accepted: the code's stack has no room for more
 unfoldable pub anyJoined : List ℕ → Bool
 anyJoined records = cond (ltb most-records (recordCount records)) false (walk records (recordCount records) 0 .found)

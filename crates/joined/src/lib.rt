@@ -112,7 +112,7 @@ fn joins(r: Record, right: u8) -> bool
 
 // How many children the parts of a row stand for, in a record that counts n.
 fn children_in(t: &Shapes, row: usize, n: u16) -> usize
-    requires { ⌜ row + ShapeTable.rowSize ≤ ShapeTable.firstClassRow ⌝ }
+    requires { ⌜ row + ShapeTable.row-size ≤ ShapeTable.first-class-row ⌝ }
     ensures { λ r. ⌜ r ≡ length (classes n (ShapeTable.shapeAt (now (t .entry)) row .parts)) ⌝ }
 {
     let mut total: usize = 0;

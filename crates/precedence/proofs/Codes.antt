@@ -3,7 +3,7 @@ use mathlib.Core.Path.{_≡_, sym, ap, _∙_}
 use Prim.Native.Nat.{ℕ, zero, suc, _+_, _-_, _≤_}
 use native.Mathlib.Nat.{add-zero}
 use native.Mathlib.Omega.{arith}
-use Rattle.text.specs.Text.{binary-precedence}
+use Rattle.text.specs.Text.{binary-precedence, binary-op}
 use Rattle.text.specs.Reading.{binaryOp}
 
 -- k + n, told so that it computes where n is known
@@ -18,5 +18,5 @@ above-sum k (suc n) = ap suc (above-sum k n) ∙ omega arith
 
 -- behind the operators stands the last, Mod
 pub last-binary : (v : ℕ) → 18 ≤ v → 4 ≡ binary-precedence (binaryOp v)
-unfolding binaryOp binary-precedence
+unfolding binaryOp binary-op
 last-binary v h = let e : (v - 18) above 18 ≡ v = above-sum (v - 18) 18 ∙ omega arith in ap (λ (k : ℕ). binary-precedence (binaryOp k)) e

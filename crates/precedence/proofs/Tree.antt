@@ -9,18 +9,18 @@ use Rattle.text.specs.Tree.{Expr}
 use Rattle.text.specs.Text.{precedence}
 use Rattle.text.specs.Reading.{Item, Read, Reader, exprOf}
 use Rattle.text.proofs.ByKind.{of-kind}
-use Rattle.precedence.specs.Strength.{strengthOf}
+use Rattle.precedence.specs.Precedence.{precedenceOf}
 
 module _ (names : List ℕ) (r : Record) (L : List Item) where
   -- what is read as kind k binds so
   abbrev Binds : ℕ → Read Expr → Type 0
-  Binds k x = precedence (x .tree) ≡ strengthOf k (r .variant)
+  Binds k x = precedence (x .tree) ≡ precedenceOf k (r .variant)
 
   row-of : (m : ℕ) (f g : Reader Expr) → Binds m (f L) → (eqb (r .kind) m ≡ false → Binds (r .kind) (g L)) → Binds (r .kind) (cond (eqb (r .kind) m) f g L)
   row-of m f g = of-kind Binds L (r .kind) m f g
 
   pub strength-at : Binds (r .kind) (exprOf names r L)
-  unfolding exprOf precedence strengthOf
+  unfolding exprOf precedence precedenceOf
   strength-at =
       row-of 1 _ _ refl λ e1.
       row-of 2 _ _ refl λ e2.

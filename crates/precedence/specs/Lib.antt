@@ -1,1 +1,1 @@
-pub mod Strength
+pub mod Precedence

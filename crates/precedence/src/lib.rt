@@ -3,7 +3,7 @@ ghost use mathlib.Core.Path.{_≡_};
 ghost use Prim.Native.Nat.{_≤_};
 ghost use Rattle.text.specs.Text.{binary-precedence};
 ghost use Rattle.text.specs.Reading.{binaryOp};
-ghost use Rattle.precedence.specs.Strength.{strengthOf};
+ghost use Rattle.precedence.specs.Precedence.{precedenceOf};
 
 // HasPrecedence's numbers that are named here or by the printers; the other binary operators are between.
 pub const ATOMIC: u8 = 0;
@@ -49,7 +49,7 @@ pub fn of_binary_op(v: u8) -> u8
 
 // 000 HasPrecedence for Expr. (Apart from the operators, so that the rest compiles to a look into a constant.)
 pub fn of_expr(kind: u8, v: u8) -> u8
-    ensures { λ r. ⌜ r ≡ strengthOf kind v ⌝ }
+    ensures { λ r. ⌜ r ≡ precedenceOf kind v ⌝ }
 {
     if kind == 8 {
         return of_binary_op(v);
