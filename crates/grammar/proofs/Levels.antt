@@ -9,7 +9,7 @@ use Rattle.text.specs.Token.{Token}
 use Rattle.text.specs.Token.Token.{symbol}
 use Rattle.text.specs.Tree.{UnaryOp, BinaryOp, AssignmentOp, Expr}
 use Rattle.text.specs.Tree.Expr.{Unary, Binary, Assignment}
-use Rattle.text.specs.Text.{unary-symbol, binary-symbol, assignment-symbol}
+use Rattle.text.specs.Text.{unary-symbol, binary-symbol, assignment-symbol, binary-op}
 use Rattle.grammar.specs.Strength.{under}
 use Rattle.grammar.specs.Chapter9.{Nonterminal, Derives}
 use Rattle.grammar.specs.Chapter9.Nonterminal.{primary-expression, postfix-expression, unary-expression, multiplicative-expression, additive-expression, shift-expression, relational-expression, equality-expression, and-expression, exclusive-or-expression, inclusive-or-expression, logical-and-expression, logical-xor-expression, logical-or-expression, conditional-expression, assignment-expression, expression}
@@ -72,7 +72,7 @@ prefixed UnaryOp.Complement d = unary·operator unary-operator·tilde d
 
 pub binary : {ts us : List Token} {a b : Expr} (o : BinaryOp) → Derives (level (suc (under o))) ts (expr a) → Derives (level (under o)) us (expr b)
     → Derives (level (suc (under o))) (ts ++ (symbol (binary-symbol o) ∷ us)) (expr (Binary o a b))
-unfolding level under binary-symbol
+unfolding level under binary-op
 binary BinaryOp.Or d e = logical-or·or-op d e
 binary BinaryOp.Xor d e = logical-xor·xor-op d e
 binary BinaryOp.And d e = logical-and·and-op d e

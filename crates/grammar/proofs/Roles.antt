@@ -2,7 +2,7 @@
 use mathlib.Core.Path.{_≡_, refl}
 use Rattle.words.specs.Symbol.{Symbol}
 use Rattle.text.specs.Tree.{UnaryOp, BinaryOp, AssignmentOp}
-use Rattle.text.specs.Text.{unary-symbol, binary-symbol, assignment-symbol}
+use Rattle.text.specs.Text.{unary-symbol, binary-symbol, assignment-symbol, binary-op}
 use Rattle.grammar.proofs.Settled.{PostfixOp, postfix-symbol}
 
 -- what a symbol does where an operand is wanted
@@ -127,7 +127,7 @@ postfix-role PostfixOp.inc = refl
 postfix-role PostfixOp.dec = refl
 
 pub binary-role : (o : BinaryOp) → role (binary-symbol o) ≡ Role.binary o
-unfolding role binary-symbol
+unfolding role binary-op
 binary-role BinaryOp.Or = refl
 binary-role BinaryOp.Xor = refl
 binary-role BinaryOp.And = refl
@@ -233,7 +233,7 @@ RoleOf y Role.dot = y ≡ Symbol.dot
 RoleOf y Role.nothing = Unit
 
 pub role-of : (y : Symbol) → RoleOf y (role y)
-unfolding role binary-symbol assignment-symbol postfix-symbol
+unfolding role binary-op assignment-symbol postfix-symbol
 role-of Symbol.left-paren = refl
 role-of Symbol.right-paren = refl
 role-of Symbol.left-bracket = refl

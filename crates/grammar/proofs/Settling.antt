@@ -16,7 +16,7 @@ use Rattle.text.specs.Tree.Exprs.{no-exprs}
 use Rattle.text.specs.Tree.FunIdentifier.{OfExpr}
 use Rattle.text.specs.Tree.ArraySpecifier.{no-dimensions}
 use Rattle.text.specs.Tree.ArraySpecifierDimension.{Unsized, ExplicitlySized}
-use Rattle.text.specs.Text.{unary-symbol, binary-symbol, assignment-symbol}
+use Rattle.text.specs.Text.{unary-symbol, binary-symbol, assignment-symbol, binary-op}
 use Rattle.grammar.specs.Last.{last-expr, last-dimension}
 use Rattle.grammar.specs.Strength.{under}
 use Rattle.grammar.specs.Same.{Same, as-read, exprs-as-read, callee-as-read, type-as-read, array-as-read, dimension-as-read, type-callee, indexed-callee}
@@ -337,7 +337,7 @@ plain {ts = ts} r = rw (append-nil ts) at (arrayed r bare)
 
 -- production by production
 settled : {n : Nonterminal} {ts : List Token} {v : Value} → Derives n ts v → Settles (place n) ts v
-unfolding place as-read callee-as-read as-expr taken indexed constant word-constant head-token head-base posted postfix-symbol unary-symbol binary-symbol assignment-symbol under
+unfolding place as-read callee-as-read as-expr taken indexed constant word-constant head-token head-base posted postfix-symbol unary-symbol binary-op assignment-symbol under
 settled (variable·identifier n) = record { tree = Variable n; same = refl; form = small (typed (named n) no-dimensions) (d·head (named n)) refl }
 settled (primary·variable d) = settled d
 settled (primary·int n) = constant-read refl

@@ -1,11 +1,11 @@
 -- 000's table of precedences (HasPrecedence) is the table of 4.60 §5.1. Assumes nothing.
 use mathlib.Core.Path.{_≡_, refl}
 use Rattle.text.specs.Tree.{BinaryOp}
-use Rattle.text.specs.Text.{binary-precedence}
+use Rattle.text.specs.Text.{binary-precedence, binary-op}
 use Rattle.grammar.specs.Strength.{under, strength}
 
 pub same-strength : (o : BinaryOp) → binary-precedence o ≡ strength o
-unfolding binary-precedence under
+unfolding binary-op under
 same-strength BinaryOp.Or = refl
 same-strength BinaryOp.Xor = refl
 same-strength BinaryOp.And = refl

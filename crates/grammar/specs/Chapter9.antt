@@ -1,7 +1,8 @@
 -- Chapter 9 of the GLSL 4.60 specification, for expressions: the nonterminals that `expression` reaches by their names, their productions in its order (each quoted
 -- above its line), and the tree that each makes. `Derives n ts v` says that the nonterminal n derives the tokens ts, and that v is what they mean. A name is an
 -- IDENTIFIER, a TYPE_NAME or a FIELD_SELECTION, as the derivation likes. Left out of type_specifier_nonarray are struct_specifier and the type keywords beyond 01's
--- 51: no text of a sound expression holds the words that these begin with (01, "Sound expression": callees, names). Assumes nothing.
+-- 51: no text of a sound expression holds the words that these begin with (01, "Sound expression": callees, names). Which numbers, names and texts a token may have is
+-- not asked here, but by lexis (`proper`). Assumes nothing.
 use mathlib.Core.Bool.{Bool}
 use mathlib.Core.List.{List, [], _∷_, _++_}
 use Prim.Native.Nat.{ℕ}

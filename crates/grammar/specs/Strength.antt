@@ -1,4 +1,5 @@
--- The strengths of the binary operators (4.60 §5.1, rows 4 to 14), for the settled grammar; they are those of HasPrecedence (proofs/Strengths). Assumes nothing.
+-- The strengths of the binary operators (4.60 §5.1, rows 4 to 14), for the settled grammar; they are those of HasPrecedence (proofs/Strengths). Each number of the table is
+-- 5.1's less one. Assumes nothing.
 use Prim.Native.Nat.{ℕ, suc}
 use Rattle.text.specs.Tree.{BinaryOp}
 

@@ -11,7 +11,7 @@ use borrow.Author.Tests.{eqb-true, ne-eqb}
 use Rattle.words.specs.Bytes.{bytes}
 use Rattle.words.specs.Letter.{between, digit, letter, nameByte}
 use Rattle.words.specs.Form.{longest-float, all, same, oneOf, digits, behindDigits, wholePart, fraction, nothingOrFraction, floatForm}
-use Rattle.decimal.specs.Decimal.{decimal, value}
+use Rattle.decimal.specs.Decimal.{decimal, valueOf}
 use Rattle.decimal.proofs.Laws.{value-decimal}
 use Rattle.text.specs.Token.{Token, has, point, pointed, spell}
 use Rattle.text.specs.Token.Token.{int, uint, float, double}
@@ -33,8 +33,8 @@ of-fraction ds fs [] = float (float-text ds fs)
 of-fraction ds fs (b ∷ r) = double (float-text ds fs)
 
 of-rest : (whole behind : List ℕ) → Token
-of-rest ds [] = int (value 0 ds)
-of-rest ds (b ∷ r) = cond (eqb b point) (of-fraction ds (digits r) (behindDigits r)) (uint (value 0 ds))
+of-rest ds [] = int (valueOf 0 ds)
+of-rest ds (b ∷ r) = cond (eqb b point) (of-fraction ds (digits r) (behindDigits r)) (uint (valueOf 0 ds))
 
 -- the number that is printed so
 pub number-token : List ℕ → Token

@@ -26,6 +26,7 @@ begins-with f (b ∷ bs) = f b
 abbrev pub Longest : (W : List ℕ → Bool) → (w bs : List ℕ) → Type 0
 Longest W w bs = (b : ℕ) (more rest : List ℕ) → bs ≡ b ∷ (more ++ rest) → W (w ++ (b ∷ more)) ≡ true → ⊥
 
+-- the end; white space is skipped; a longest word is taken (every word that is a token is in W: proofs/Laws, `within`)
 pub data Divides (L : List ℕ → Token → Type 0) (W : List ℕ → Bool) : List ℕ → List Token → Type 0 where
   at-end : Divides L W [] []
   skip : {b : ℕ} {bs : List ℕ} {ts : List Token} → white-space b ≡ true → Divides L W bs ts → Divides L W (b ∷ bs) ts

@@ -1,15 +1,13 @@
 -- GLSL's words, and the tokens that they are (4.60 chapter 3, §4.1). Assumes nothing.
 use mathlib.Core.Path.{_≡_}
 use mathlib.Core.Bool.{Bool, true, false, not, _&&_, _||_}
-use mathlib.Core.List.{List, [], _∷_, _++_, map}
+use mathlib.Core.List.{List, [], _∷_}
 use Prim.Native.Nat.{ℕ, _^_}
 use Prim.Native.String.{String}
 use lib.ListN.{length}
 use lib.Dec.{ltb}
 use Rattle.words.specs.Letter.{digit, nameByte}
 use Rattle.words.specs.Form.{all, oneOf, nameForm, floatForm}
-use Rattle.words.specs.Symbol.{symbolText, unaryOperators, binaryOperators, assignmentOperators}
-use Rattle.words.specs.Symbol.Symbol.{left-paren, right-paren, left-bracket, right-bracket, left-brace, right-brace, dot, comma, colon, semicolon, question}
 use Rattle.words.specs.Keyword.{typeKeywords}
 use Rattle.text.specs.Token.{Token, spell}
 use Rattle.text.specs.Token.Token.{name, int, uint, float, double, word, symbol}
@@ -25,15 +23,16 @@ identifier-word (b ∷ bs) = nameByte b && not (digit b) && all nameByte bs
 -- the symbols of chapter 9, and what opens a comment (4.60 §3.4)
 unfoldable pub symbol-words : List String
 symbol-words =
-    map symbolText (unaryOperators ++ binaryOperators ++ assignmentOperators)
-    ++ map symbolText (left-paren ∷ right-paren ∷ left-bracket ∷ right-bracket ∷ left-brace ∷ right-brace ∷ dot ∷ comma ∷ colon ∷ semicolon ∷ question ∷ [])
-    ++ ("//" ∷ "/*" ∷ [])
+    "(" ∷ ")" ∷ "[" ∷ "]" ∷ "{" ∷ "}" ∷ "." ∷ "," ∷ ":" ∷ ";" ∷ "?"
+    ∷ "++" ∷ "--" ∷ "+" ∷ "-" ∷ "!" ∷ "~" ∷ "*" ∷ "/" ∷ "%" ∷ "<<" ∷ ">>" ∷ "<" ∷ ">" ∷ "<=" ∷ ">=" ∷ "==" ∷ "!=" ∷ "&" ∷ "^" ∷ "|" ∷ "&&" ∷ "^^" ∷ "||"
+    ∷ "=" ∷ "*=" ∷ "/=" ∷ "%=" ∷ "+=" ∷ "-=" ∷ "<<=" ∷ ">>=" ∷ "&=" ∷ "^=" ∷ "|="
+    ∷ "//" ∷ "/*" ∷ []
 
 unfoldable pub glsl-word : List ℕ → Bool
 glsl-word w = identifier-word w || number-word w || oneOf symbol-words w
 
--- the tokens that a text may hold: names of 01's form that GLSL does not list, numbers of 32 bits and floats in the forms that are printed (4.60 §4.1.3: an int of 32
--- bits is their bit pattern), the language's own words and symbols
+-- the tokens that a text may hold: names of 01's form that GLSL does not list, numbers of 32 bits and floats in the forms that are printed (4.60 §4.1.3: a literal's
+-- 32 bits are taken as they are), the language's own words and symbols
 unfoldable pub proper : Token → Bool
 proper (name n) = nameForm n && not (listed n)
 proper (Token.type v) = ltb v (length typeKeywords)

@@ -13,7 +13,7 @@ use Rattle.grammar.proofs.Settled.{head-token, head-base, indexed, as-expr, cal
 use Rattle.grammar.proofs.Roles.{start, role}
 use Rattle.grammar.proofs.Reader.{filled, gives, makes, subscript-room, frame-room, room, reduce, strength, settle, put, put-else, put-comma, close-parens, subscript, close-subscript, empty-subscript, empty-call, void-call, begin, go-on, take, step, run, finish, ended, read}
 use Rattle.formed.specs.Formed.{Formed-expr}
-use Rattle.sound.specs.Sound.{is-inc, is-dec, minus-over-dec-or-plus-over-inc, numeric, Sound}
+use Rattle.sound.specs.Sound.{Sound}
 
 unfoldable pub reading : ℕ
 unfolding digit letter nameByte all same oneOf digits behindDigits wholePart fraction nothingOrFraction nameForm floatForm
@@ -21,5 +21,5 @@ unfolding digit letter nameByte all same oneOf digits behindDigits wholePart fra
     last-expr last-dimension under type-callee indexed-callee as-read
     head-token head-base indexed as-expr called word-constant constant postfix-symbol posted start role
     filled gives makes subscript-room frame-room room reduce strength settle put put-else put-comma close-parens subscript close-subscript empty-subscript empty-call void-call begin go-on take step run finish ended read
-    Formed-expr is-inc is-dec minus-over-dec-or-plus-over-inc numeric Sound
+    Formed-expr Sound
 reading = 0

@@ -37,7 +37,7 @@ use Rattle.grammar.specs.Chapter9.Value.{expr}
 use Rattle.grammar.specs.Same.{Same}
 use Rattle.grammar.proofs.Reader.{read}
 use Rattle.grammar.proofs.Agree.{reader-derives, reader-refuses}
-use Rattle.sound.specs.Sound.{Sound}
+use Rattle.sound.specs.Sound.{Mixed, Numeric, Sound}
 use Rattle.sound.proofs.Clear.{true-false}
 use Rattle.reading.specs.Read.{IsRead}
 use Rattle.reading.proofs.Computing.{reading}
@@ -78,7 +78,7 @@ pub minus-over-dec : Misread (Unary UnaryOp.Minus (Unary UnaryOp.Dec (var "k")))
 unfolding computing reading
 minus-over-dec = record {
   formed = refl;
-  unsound = λ s. true-false (s.0);
+  unsound = λ s. s.0 Mixed.minus-over-dec;
   printed = refl;
   read = as-reader (tok (symbol dec-op) ∷ tok (symbol dash) ∷ tok (name (bytes "k")) ∷ []) refl (Unary UnaryOp.Dec (Unary UnaryOp.Minus (var "k"))) refl;
   other = λ s. let z : _≡_ {A = ℕ} 0 1 = cc in omega arith;
@@ -89,7 +89,7 @@ pub plus-over-inc : Misread (Unary UnaryOp.Add (Unary UnaryOp.Inc (var "k"))) "+
 unfolding computing reading
 plus-over-inc = record {
   formed = refl;
-  unsound = λ s. true-false (s.0);
+  unsound = λ s. s.0 Mixed.plus-over-inc;
   printed = refl;
   read = as-reader (tok (symbol inc-op) ∷ tok (symbol plus) ∷ tok (name (bytes "k")) ∷ []) refl (Unary UnaryOp.Inc (Unary UnaryOp.Add (var "k"))) refl;
   other = λ s. let z : _≡_ {A = ℕ} 0 1 = cc in omega arith;
@@ -100,7 +100,7 @@ pub dot-over-int : Misread (Dot (bytes "lf") (IntConst 1)) "1.lf" (DoubleConst (
 unfolding computing reading
 dot-over-int = record {
   formed = (refl, omega arith);
-  unsound = λ s. true-false (s.0);
+  unsound = λ s. s.0 Numeric.int;
   printed = refl;
   read = as-reader (tok (double (bytes "1")) ∷ []) refl (DoubleConst (bytes "1")) refl;
   other = λ s. let z : _≡_ {A = ℕ} 0 1 = cc in omega arith;

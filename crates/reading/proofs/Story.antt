@@ -17,6 +17,7 @@ use Rattle.accepted.proofs.Case.{computing as checking}
 use Rattle.text.specs.Token.Token.{name, symbol}
 use Rattle.text.specs.Tree.{UnaryOp, BinaryOp, Expr}
 use Rattle.text.specs.Tree.Expr.{Variable, Unary, Binary, PostDec}
+use Rattle.sound.specs.Sound.{Unmixed}
 use Rattle.text.specs.Reading.{itemAt}
 use Rattle.text.specs.Whole.{exprText}
 use Rattle.text.proofs.Computing.{computing}
@@ -25,7 +26,7 @@ use Rattle.lexis.specs.Glsl.{glsl-word}
 use Rattle.lexis.proofs.Tests.{both}
 use Rattle.lexis.proofs.Glsl.{glsl-between}
 use Rattle.glsl.specs.Printed.{exprOutcome, front, fitted, outcome}
-use Rattle.glsl.specs.Joined.{judged, joinedOutcome}
+use Rattle.glsl.specs.Joined.{whetherJoined, joinedOutcome}
 use Rattle.glsl.specs.declared.Whether.the-variants.{No, Yes}
 use Rattle.reading.specs.Read.{IsRead}
 use Rattle.reading.specs.Demand3.{Call}
@@ -106,14 +107,18 @@ open-call = record {
   accepted = refl;
 }
 
+-- an operator over a name is not mixed
+over-name : (op : UnaryOp) (n : List ℕ) → Unmixed op (Variable n)
+over-name op n = elim [ ]
+
 pub story : Story
-unfolding computing checking reading fitted outcome judged open-call
+unfolding computing checking reading fitted outcome whetherJoined open-call
 story = record {
   first = refl;
   second = refl;
   open-text = refl;
   open-other = refl;
-  open-read = in-glsl .read-as open-call (record { spaced = refl; sound = (refl, (refl, refl)) });
+  open-read = in-glsl .read-as open-call (record { spaced = refl; sound = (refl, (over-name UnaryOp.Dec (bytes "k"), refl)) });
   tight-text = refl;
   tight-other = refl;
   tight-read = tight;

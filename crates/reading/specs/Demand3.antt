@@ -1,4 +1,4 @@
--- Demand 3, about the public call: with spaces around operators the text of a sound expression is read by GLSL 4.60's grammar as that expression and no other.
+-- Demand 3 (README's promise 3), about the public call: with spaces around operators the text of a sound expression is read by GLSL 4.60's grammar as that expression and no other.
 -- proofs/Demand3 has it for GLSL's words, for those of the preprocessor, and for any language between the two (`holds`); proofs/Calls brings it to print_expr_into and
 -- glsl_print_expr.
 --

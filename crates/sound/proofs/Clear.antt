@@ -14,12 +14,12 @@ use Rattle.words.specs.Symbol.{Symbol, symbolText}
 use Rattle.words.specs.Symbol.Symbol.{dot, inc-op, dec-op, tilde}
 use Rattle.text.specs.Token.{Token, has}
 use Rattle.text.specs.Token.Token.{name, int, uint, float, double, word, symbol}
-use Rattle.text.specs.Tree.{UnaryOp}
+use Rattle.text.specs.Tree.{UnaryOp, Expr}
 use Rattle.text.specs.Text.{unary-symbol, doubled, is-add, is-minus}
 use Rattle.lexis.specs.Division.{begins-with}
 use Rattle.lexis.proofs.Symbols.{space-behind}
 use Rattle.lexis.proofs.Laws.{symbol-lengthens, lengthens}
-use Rattle.sound.specs.Sound.{minus-over-dec-or-plus-over-inc, is-inc, is-dec}
+use Rattle.sound.specs.Sound.{Mixed, Unmixed}
 
 pub false-true : {A : Type 0} → _≡_ {A = Bool} false true → A
 false-true e = let z : _≡_ {A = ℕ} 0 1 = cc in absurd (omega arith)
@@ -142,26 +142,26 @@ unfolding some-pass symbol-lengthens nameByte letter digit
 field-clear bs h = clear-of (λ b. nameByte b && not (digit b)) dot bs refl h
 
 -- a unary operator stands clear behind another but for those that 01's rules keep apart: doubled ones have parentheses, mixed ones are unsound
-pub sign-clear : (u v : UnaryOp) (bs : List ℕ) → doubled u v ≡ false → minus-over-dec-or-plus-over-inc u (some v) ≡ false → Clear (symbol (unary-symbol u)) (bytes (symbolText (unary-symbol v)) ++ bs)
-unfolding lengthens has symbol-lengthens symbolText unary-symbol doubled is-add is-minus is-inc is-dec minus-over-dec-or-plus-over-inc
-sign-clear UnaryOp.Inc v bs d m = never-longer inc-op (bytes (symbolText (unary-symbol v)) ++ bs) refl
-sign-clear UnaryOp.Dec v bs d m = never-longer dec-op (bytes (symbolText (unary-symbol v)) ++ bs) refl
-sign-clear UnaryOp.Complement v bs d m = never-longer tilde (bytes (symbolText (unary-symbol v)) ++ bs) refl
-sign-clear UnaryOp.Not UnaryOp.Inc bs d m = refl
-sign-clear UnaryOp.Not UnaryOp.Dec bs d m = refl
-sign-clear UnaryOp.Not UnaryOp.Add bs d m = refl
-sign-clear UnaryOp.Not UnaryOp.Minus bs d m = refl
-sign-clear UnaryOp.Not UnaryOp.Not bs d m = refl
-sign-clear UnaryOp.Not UnaryOp.Complement bs d m = refl
-sign-clear UnaryOp.Add UnaryOp.Inc bs d m = m
-sign-clear UnaryOp.Add UnaryOp.Dec bs d m = refl
-sign-clear UnaryOp.Add UnaryOp.Add bs d m = d
-sign-clear UnaryOp.Add UnaryOp.Minus bs d m = refl
-sign-clear UnaryOp.Add UnaryOp.Not bs d m = refl
-sign-clear UnaryOp.Add UnaryOp.Complement bs d m = refl
-sign-clear UnaryOp.Minus UnaryOp.Inc bs d m = refl
-sign-clear UnaryOp.Minus UnaryOp.Dec bs d m = m
-sign-clear UnaryOp.Minus UnaryOp.Add bs d m = refl
-sign-clear UnaryOp.Minus UnaryOp.Minus bs d m = d
-sign-clear UnaryOp.Minus UnaryOp.Not bs d m = refl
-sign-clear UnaryOp.Minus UnaryOp.Complement bs d m = refl
+pub sign-clear : (u v : UnaryOp) (e : Expr) (bs : List ℕ) → doubled u v ≡ false → Unmixed u (Expr.Unary v e) → Clear (symbol (unary-symbol u)) (bytes (symbolText (unary-symbol v)) ++ bs)
+unfolding lengthens has symbol-lengthens symbolText unary-symbol doubled is-add is-minus
+sign-clear UnaryOp.Inc v e bs d m = never-longer inc-op (bytes (symbolText (unary-symbol v)) ++ bs) refl
+sign-clear UnaryOp.Dec v e bs d m = never-longer dec-op (bytes (symbolText (unary-symbol v)) ++ bs) refl
+sign-clear UnaryOp.Complement v e bs d m = never-longer tilde (bytes (symbolText (unary-symbol v)) ++ bs) refl
+sign-clear UnaryOp.Not UnaryOp.Inc e bs d m = refl
+sign-clear UnaryOp.Not UnaryOp.Dec e bs d m = refl
+sign-clear UnaryOp.Not UnaryOp.Add e bs d m = refl
+sign-clear UnaryOp.Not UnaryOp.Minus e bs d m = refl
+sign-clear UnaryOp.Not UnaryOp.Not e bs d m = refl
+sign-clear UnaryOp.Not UnaryOp.Complement e bs d m = refl
+sign-clear UnaryOp.Add UnaryOp.Inc e bs d m = absurd (m Mixed.plus-over-inc)
+sign-clear UnaryOp.Add UnaryOp.Dec e bs d m = refl
+sign-clear UnaryOp.Add UnaryOp.Add e bs d m = d
+sign-clear UnaryOp.Add UnaryOp.Minus e bs d m = refl
+sign-clear UnaryOp.Add UnaryOp.Not e bs d m = refl
+sign-clear UnaryOp.Add UnaryOp.Complement e bs d m = refl
+sign-clear UnaryOp.Minus UnaryOp.Inc e bs d m = refl
+sign-clear UnaryOp.Minus UnaryOp.Dec e bs d m = absurd (m Mixed.minus-over-dec)
+sign-clear UnaryOp.Minus UnaryOp.Add e bs d m = refl
+sign-clear UnaryOp.Minus UnaryOp.Minus e bs d m = d
+sign-clear UnaryOp.Minus UnaryOp.Not e bs d m = refl
+sign-clear UnaryOp.Minus UnaryOp.Complement e bs d m = refl

@@ -41,7 +41,8 @@ use Rattle.lexis.specs.Division.Divides.{at-end}
 use Rattle.lexis.proofs.Tests.{both}
 use Rattle.lexis.proofs.Letters.{digit-name-byte}
 use Rattle.lexis.proofs.Laws.{symbol-lengthens, opens, Vocabulary}
-use Rattle.sound.specs.Sound.{Unmixed, numeric, Sound, SoundCallee, SoundArguments, SoundType, SoundArray, SoundDimension, SoundBase}
+use Rattle.sound.specs.Sound.{Unmixed, NotNumeric, Sound, SoundCallee, SoundArguments, SoundType, SoundArray, SoundDimension, SoundBase}
+use Rattle.sound.proofs.Numeric.{numeric, not-numeric}
 use Rattle.sound.proofs.Clear.{Clear, Ends, ends-wider, ends-clear, point-clear, opening, unary-clear, field-clear, sign-clear, false-true}
 use Rattle.sound.proofs.Parts.{Part, Begins, then, wider, nothing, begins-then, before, begins-token, operand-begins, a-part, a-symbol-part, behind, indexed, called, operand, no-number, separated, between}
 
@@ -60,8 +61,8 @@ pub record Admits (listed : List ℕ → Bool) (proper : Token → Bool) : Type 
 abbrev tail : Expr → Bool
 tail e = numeric e || not (leb (precedence e) 2)
 
-tail-false : (e : Expr) → numeric e ≡ false → leb (precedence e) 2 ≡ true → tail e ≡ false
-tail-false e n h = rw (n, h) refl
+tail-false : (e : Expr) → NotNumeric e → leb (precedence e) 2 ≡ true → tail e ≡ false
+tail-false e n h = rw (not-numeric e n, h) refl
 
 loose : (o : BinaryOp) → leb (binary-precedence o) 2 ≡ false
 loose o = lt-leb (binary-precedence o) 2 (omega (arith, same-strength o, ladder o .0))
@@ -140,7 +141,7 @@ module _ (listed : List ℕ → Bool) {L : List ℕ → Token → Type 0} {W : L
   bare-clear op (BoolConst b) f t m d h x rest = opening-clear op (BoolConst b) f t (omega arith) x rest
   bare-clear op (FloatConst n) f t m d h x rest = opening-clear op (FloatConst n) f t (omega arith) x rest
   bare-clear op (DoubleConst n) f t m d h x rest = opening-clear op (DoubleConst n) f t (omega arith) x rest
-  bare-clear op (Unary o e) f t m d h x rest = rw (append-assoc (bytes (symbolText (unary-symbol o)))) (sign-clear op o _ d m)
+  bare-clear op (Unary o e) f t m d h x rest = rw (append-assoc (bytes (symbolText (unary-symbol o)))) (sign-clear op o e _ d m)
   bare-clear op (Binary o l r) f t m d h x rest = absurd (omega (arith, same-strength o, ladder o .0))
   bare-clear op (Ternary c a b) f t m d h x rest = absurd (omega arith)
   bare-clear op (Assignment o v e) f t m d h x rest = absurd (omega arith)

@@ -3,6 +3,7 @@ pub mod Joined
 pub mod Shows
 pub mod Derived
 pub mod Clear
+pub mod Numeric
 pub mod Parts
 pub mod Divided
 pub mod Glsl

@@ -23,7 +23,7 @@ use Rattle.text.specs.Tree.ArraySpecifierDimension.{Unsized, ExplicitlySized}
 use Rattle.text.proofs.Computing.{computing}
 use Rattle.formed.specs.Formed.{Formed-expr}
 use Rattle.lexis.specs.Keywords.{keywords, vulkan-keywords, reserved-words, listed-words, listed}
-use Rattle.sound.specs.Sound.{is-inc, is-dec, minus-over-dec-or-plus-over-inc, numeric, Sound}
+use Rattle.sound.specs.Sound.{Sound}
 
 abbrev var : String → Expr
 var n = Variable (bytes n)
@@ -59,8 +59,8 @@ sample-formed = (
 )
 
 pub sample-sound : Sound listed sample
-unfolding computing Sound is-inc is-dec minus-over-dec-or-plus-over-inc numeric listed listed-words keywords vulkan-keywords reserved-words same oneOf
+unfolding computing Sound listed listed-words keywords vulkan-keywords reserved-words same oneOf
 sample-sound = (
-  (omega arith, (refl, refl), (((refl, refl), tt), ((tt, tt), (omega arith, tt, (omega arith, tt, tt))), (refl, refl, ((refl, (tt, ((omega arith, refl), tt))), (omega arith, tt, tt))))),
-  ((bytes "f", refl, refl), (omega arith, refl, (omega arith, (refl, refl, refl), (omega arith, ((refl, tt), tt), tt)))),
+  (omega arith, (refl, refl), (((elim [ ], refl), tt), ((tt, tt), (omega arith, tt, (omega arith, tt, tt))), (elim [ ], refl, ((refl, (tt, ((omega arith, refl), tt))), (omega arith, tt, tt))))),
+  ((bytes "f", refl, refl), (omega arith, refl, (omega arith, (elim [ ], refl, refl), (omega arith, ((refl, tt), tt), tt)))),
 )

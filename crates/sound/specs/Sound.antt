@@ -1,9 +1,8 @@
 -- Sound expressions (01, "Sound expression", every part included): a name for each of its conditions, then the condition on every part. The names that the
 -- language lists as its own are a parameter. Assumes nothing.
 use mathlib.Core.Path.{_≡_}
-use mathlib.Core.Bool.{Bool, true, false, _&&_, _||_}
+use mathlib.Core.Bool.{Bool, false}
 use mathlib.Core.List.{List}
-use mathlib.Core.Option.{Option, none, some}
 use Prim.Native.Nat.{ℕ, _≤_}
 use Rattle.decimal.specs.Decimal.{negative}
 use Rattle.text.specs.Tree.{Identifier, UnaryOp, Expr, Exprs, FunIdentifier, TypeSpecifier, TypeSpecifierNonArray, ArraySpecifier, ArraySpecifierDimension}
@@ -14,70 +13,41 @@ use Rattle.text.specs.Tree.TypeSpecifier.{no-type, type}
 use Rattle.text.specs.Tree.TypeSpecifierNonArray.{no-base, Keyword, TypeName, Struct}
 use Rattle.text.specs.Tree.ArraySpecifier.{no-dimensions, dimensions}
 use Rattle.text.specs.Tree.ArraySpecifierDimension.{no-dimension, Unsized, ExplicitlySized}
-use Rattle.text.specs.Text.{precedence, unary-precedence, ternary-precedence, assignment-precedence, unary-op, is-add, is-minus}
+use Rattle.text.specs.Text.{precedence, unary-precedence, ternary-precedence, assignment-precedence}
 
 -- "no negative IntConst"
 abbrev pub NotNegative : ℕ → Type 0
 NotNegative n = negative n ≡ false
 
-unfoldable pub is-inc : UnaryOp → Bool
-is-inc UnaryOp.Inc = true
-is-inc UnaryOp.Dec = false
-is-inc UnaryOp.Add = false
-is-inc UnaryOp.Minus = false
-is-inc UnaryOp.Not = false
-is-inc UnaryOp.Complement = false
-
-unfoldable pub is-dec : UnaryOp → Bool
-is-dec UnaryOp.Inc = false
-is-dec UnaryOp.Dec = true
-is-dec UnaryOp.Add = false
-is-dec UnaryOp.Minus = false
-is-dec UnaryOp.Not = false
-is-dec UnaryOp.Complement = false
-
-unfoldable pub minus-over-dec-or-plus-over-inc : UnaryOp → Option UnaryOp → Bool
-minus-over-dec-or-plus-over-inc op none = false
-minus-over-dec-or-plus-over-inc op (some o) = is-minus op && is-dec o || is-add op && is-inc o
-
 -- "no minus directly over Dec nor plus directly over Inc"
-abbrev pub Unmixed : UnaryOp → Expr → Type 0
-Unmixed op e = minus-over-dec-or-plus-over-inc op (unary-op e) ≡ false
+pub data Mixed : UnaryOp → Expr → Type 0 where
+  minus-over-dec : {e : Expr} → Mixed UnaryOp.Minus (Unary UnaryOp.Dec e)
+  plus-over-inc : {e : Expr} → Mixed UnaryOp.Add (Unary UnaryOp.Inc e)
 
-unfoldable pub numeric : Expr → Bool
-numeric no-expr = false
-numeric (Variable n) = false
-numeric (IntConst n) = true
-numeric (UIntConst n) = true
-numeric (BoolConst b) = false
-numeric (FloatConst t) = true
-numeric (DoubleConst t) = true
-numeric (Unary op e) = false
-numeric (Binary op l r) = false
-numeric (Ternary c s e) = false
-numeric (Assignment op v e) = false
-numeric (Bracket e a) = false
-numeric (FunCall f es) = false
-numeric (Dot i e) = false
-numeric (PostInc e) = false
-numeric (PostDec e) = false
-numeric (Comma a b) = false
+abbrev pub Unmixed : UnaryOp → Expr → Type 0
+Unmixed op e = Mixed op e → ⊥
 
 -- "no Dot directly over a numeric constant"
+pub data Numeric : Expr → Type 0 where
+  int : {n : ℕ} → Numeric (IntConst n)
+  uint : {n : ℕ} → Numeric (UIntConst n)
+  float : {t : List ℕ} → Numeric (FloatConst t)
+  double : {t : List ℕ} → Numeric (DoubleConst t)
+
 abbrev pub NotNumeric : Expr → Type 0
-NotNumeric e = numeric e ≡ false
+NotNumeric e = Numeric e → ⊥
 
 -- "no Comma directly as an argument": nothing else binds so weakly
 abbrev pub NoComma : Expr → Type 0
 NoComma e = precedence e ≤ assignment-precedence
 
 -- "assignment targets bind at 3 or below"
-abbrev pub Target : Expr → Type 0
-Target e = precedence e ≤ unary-precedence
+abbrev pub BindsAsTarget : Expr → Type 0
+BindsAsTarget e = precedence e ≤ unary-precedence
 
 -- "sized dimensions at 15 or below"
-abbrev pub Dimension : Expr → Type 0
-Dimension e = precedence e ≤ ternary-precedence
+abbrev pub BindsAsDimension : Expr → Type 0
+BindsAsDimension e = precedence e ≤ ternary-precedence
 
 module _ (listed : List ℕ → Bool) where
   -- "no name that section 3.6 lists as a keyword or reserved word"
@@ -107,7 +77,7 @@ module _ (listed : List ℕ → Bool) where
     Sound (Unary op e) = Unmixed op e × Sound e
     Sound (Binary op l r) = Sound l × Sound r
     Sound (Ternary c s e) = Sound c × Sound s × Sound e
-    Sound (Assignment op v e) = Target v × Sound v × Sound e
+    Sound (Assignment op v e) = BindsAsTarget v × Sound v × Sound e
     Sound (Bracket e a) = Sound e × Sound a
     Sound (FunCall f es) = SoundCallee f × SoundArguments es
     Sound (Dot i e) = NotNumeric e × NotListed i × Sound e
@@ -134,4 +104,4 @@ module _ (listed : List ℕ → Bool) where
     pub SoundDimension : ArraySpecifierDimension → Type 0
     SoundDimension no-dimension = ⊥
     SoundDimension Unsized = Unit
-    SoundDimension (ExplicitlySized e) = Dimension e × Sound e
+    SoundDimension (ExplicitlySized e) = BindsAsDimension e × Sound e
