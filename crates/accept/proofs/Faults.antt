@@ -9,7 +9,7 @@ use native.Mathlib.Omega.{arith}
 use Rattle.records.specs.declared.Record.{Record}
 use Rattle.shapes.specs.Class.{Class}
 use Rattle.accept.specs.declared.Refusal.{Refusal}
-use Rattle.accept.specs.Check.{Fault, first, faults, faultOf}
+use Rattle.accept.specs.Check.{Fault, firstFound, faults, faultOf}
 
 abbrev pub Every : (Fault → Type 0) → List Fault → Type 0
 Every P [] = Unit {0}
@@ -25,26 +25,26 @@ module _ (P : Refusal → Type 0) where
   found-here true x o p h = p
   found-here false x o p h = h
 
-  pub found : (fs : List Fault) → Every (λ f. P (f .refusal)) fs → Found (first fs)
+  pub found : (fs : List Fault) → Every (λ f. P (f .refusal)) fs → Found (firstFound fs)
   found [] h = tt
-  found (f ∷ fs) h = found-here (f .found) (f .refusal) (first fs) (h .0) (found fs (h .1))
+  found (f ∷ fs) h = found-here (f .found) (f .refusal) (firstFound fs) (h .0) (found fs (h .1))
 
 -- none is found exactly where no test holds
 none-here : (b : Bool) (x : Refusal) (o : Option Refusal) → cond b (some x) o ≡ none → (b ≡ false) × (o ≡ none)
 none-here true x o e = let z : _≡_ {A = ℕ} 0 1 = cc in absurd (omega arith)
 none-here false x o e = (refl, e)
 
-pub none-found : (fs : List Fault) → first fs ≡ none → Every (λ f. f .found ≡ false) fs
+pub none-found : (fs : List Fault) → firstFound fs ≡ none → Every (λ f. f .found ≡ false) fs
 none-found [] e = tt
-none-found (f ∷ fs) e = let h = none-here (f .found) (f .refusal) (first fs) e in (h .0, none-found fs (h .1))
+none-found (f ∷ fs) e = let h = none-here (f .found) (f .refusal) (firstFound fs) e in (h .0, none-found fs (h .1))
 
-pub found-none : (fs : List Fault) → Every (λ f. f .found ≡ false) fs → first fs ≡ none
+pub found-none : (fs : List Fault) → Every (λ f. f .found ≡ false) fs → firstFound fs ≡ none
 found-none [] h = refl
 found-none (f ∷ fs) h = rw (h .0) (found-none fs (h .1))
 
 -- a record's faults
 module _ (names : List ℕ) (left : ℕ) (c : Class) (r : Record) where
-  pub fault-is : faultOf names left c r ≡ first (faults names left c r)
+  pub fault-is : faultOf names left c r ≡ firstFound (faults names left c r)
   unfolding faultOf
   fault-is = refl
 

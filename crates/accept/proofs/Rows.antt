@@ -7,7 +7,7 @@ use lib.Dec.{leb}
 use borrow.Author.Tests.{leb-true}
 use Rattle.shapes.specs.Class.{takesVariant}
 use Rattle.shapes.specs.Shape.{lastVariant, shapeOf}
-use Rattle.shapes.specs.Table.{firstClassRow, allowedAt, lastAt, rowAt, shapeAt, Shaped}
+use Rattle.shapes.specs.Table.{first-class-row, allowedAt, lastAt, rowAt, shapeAt, Shaped}
 
 module _ {t : List ℕ} (shaped : Shaped t) (k v : ℕ) (byte : k < 256) where
   -- what the code's test says of it
@@ -16,8 +16,8 @@ module _ {t : List ℕ} (shaped : Shaped t) (k v : ℕ) (byte : k < 256) where
       subst (λ (n : ℕ). v ≤ n) (shaped .lasts k byte)
       (leb-true v (lastAt t k) (both (takesVariant (allowedAt t c) v) (leb v (lastAt t k)) .0 (sym e ∙ b) .1))
 
-  pub row-within : {row : ℕ} → v ≤ lastVariant k → row ≡ rowAt t k v → row + 8 ≤ firstClassRow
-  row-within fits e = subst (λ (n : ℕ). n + 8 ≤ firstClassRow) (sym e) (shaped .within k v byte fits)
+  pub row-within : {row : ℕ} → v ≤ lastVariant k → row ≡ rowAt t k v → row + 8 ≤ first-class-row
+  row-within fits e = subst (λ (n : ℕ). n + 8 ≤ first-class-row) (sym e) (shaped .within k v byte fits)
 
   pub row-shape : {row : ℕ} → v ≤ lastVariant k → row ≡ rowAt t k v → shapeAt t row ≡ shapeOf k v
   row-shape fits e = ap (shapeAt t) e ∙ shaped .shapes k v byte fits

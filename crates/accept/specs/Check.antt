@@ -1,5 +1,5 @@
 -- The record check: which refusal, and where (01, "Calls"): sizes first; then the first faulty record in preorder decides, by the first of its faults in
--- the paper's order; then what is left over. (1 and 13 are the calls'.) Assumes nothing.
+-- 01's order; then what is left over. (1 and 13 are the calls'.) Assumes nothing.
 use mathlib.Core.Bool.{Bool, false, not, _&&_, _||_, cond}
 use mathlib.Core.List.{List, [], _∷_}
 use mathlib.Core.Option.{Option, none, some}
@@ -8,7 +8,7 @@ use lib.Dec.{eqb, ltb, leb}
 use lib.ListN.{length, replicate}
 use Rattle.words.specs.Form.{nameForm, floatForm}
 use Rattle.records.specs.declared.Record.{Record}
-use Rattle.records.specs.Record.{recordSize, recordCount, recordAt, textOf}
+use Rattle.records.specs.Record.{record-size, recordCount, recordAt, textOf}
 use Rattle.shapes.specs.Class.{Class, allowed, takesKind, takesVariant}
 use Rattle.shapes.specs.Shape.{Fields, Count, Shape, lastVariant, shapeOf, classes}
 use Rattle.accept.specs.declared.Refusal.{Refusal}
@@ -68,9 +68,9 @@ abbrev pub fault : Bool → Refusal → Fault
 fault b x = record { found = b; refusal = x }
 
 -- the first of the faults that are found
-abbrev pub first : List Fault → Option Refusal
-first [] = none
-first (f ∷ fs) = cond (f .found) (some (f .refusal)) (first fs)
+abbrev pub firstFound : List Fault → Option Refusal
+firstFound [] = none
+firstFound (f ∷ fs) = cond (f .found) (some (f .refusal)) (firstFound fs)
 
 -- the faults of what a record holds, where it must have this shape
 abbrev pub contentFaults : List ℕ → Shape → Record → List Fault
@@ -90,7 +90,7 @@ faults names left c r =
     ∷ contentFaults names (shapeOf (r .kind) (r .variant)) r
 
 unfoldable pub faultOf : List ℕ → ℕ → Class → Record → Option Refusal
-faultOf names left c r = first (faults names left c r)
+faultOf names left c r = firstFound (faults names left c r)
 
 -- record i by its first fault: the record behind it, or the refusal
 abbrev pub judged : ℕ → Option Refusal → Checked
@@ -113,7 +113,7 @@ childrenOf r = classes (r .count) (shapeOf (r .kind) (r .variant) .parts)
 
 -- none, not whole, or too many
 abbrev pub recordsOutOfSize : List ℕ → Bool
-recordsOutOfSize records = eqb (length records) 0 || not (eqb (length records % recordSize) 0) || ltb (recordSize * most-records) (length records)
+recordsOutOfSize records = eqb (length records) 0 || not (eqb (length records % record-size) 0) || ltb (record-size * most-records) (length records)
 
 module _ (records names : List ℕ) where
   -- record i by itself. A walk comes to i from i - 1, so where none stands i is the record count (accepted, specs/Placed).
@@ -126,8 +126,8 @@ module _ (records names : List ℕ) where
   node (suc left) c i = bind (alone (suc left) c i) (each (node left) (childrenOf (recordAt records i)))
 
   -- n trees of class c, one behind the other: what the code's loop does
-  abbrev pub run : ℕ → Class → ℕ → ℕ → Checked
-  run left c n i = each (node left) (replicate n c) i
+  abbrev pub nodes : ℕ → Class → ℕ → ℕ → Checked
+  nodes left c n i = each (node left) (replicate n c) i
 
   -- the tree is all of the records
   abbrev pub nothingBehind : ℕ → Checked

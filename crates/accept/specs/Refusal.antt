@@ -1,4 +1,4 @@
--- The paper's numbers of the refusals, and its number and place for each answer of the check (01, "Calls"). Assumes nothing.
+-- 01's numbers of the refusals, and its number and place for each answer of the check (01, "Calls"). Assumes nothing.
 use Prim.Native.Nat.{ℕ}
 use Rattle.accept.specs.declared.Refusal.{Refusal}
 use Rattle.accept.specs.declared.Refusal.the-variants as Why
@@ -21,11 +21,11 @@ number Why.RecordsLeftOver = 12
 number Why.RoomTooSmall = 13
 
 -- the number of the refusal; 0 is none
-abbrev pub refusalNumber : Checked → ℕ
-refusalNumber (Answer.Next m) = 0
-refusalNumber (Answer.Refused x p) = number x
+abbrev pub checkedNumber : Checked → ℕ
+checkedNumber (Answer.Next m) = 0
+checkedNumber (Answer.Refused x p) = number x
 
 -- the place that goes with it; where nothing is refused, the record behind the tree
-abbrev pub place : Checked → ℕ
-place (Answer.Next m) = m
-place (Answer.Refused x p) = p
+abbrev pub checkedPlace : Checked → ℕ
+checkedPlace (Answer.Next m) = m
+checkedPlace (Answer.Refused x p) = p

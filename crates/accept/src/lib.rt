@@ -1,4 +1,4 @@
-// The refusals of the record check, and its tests of a record by itself, in the paper's order. (Crate walk takes all records; specs/Check defines the whole.)
+// The refusals of the record check, and its tests of a record by itself, in 01's order. (Crate walk takes all records; specs/Check defines the whole.)
 // What is tested goes by the table of crate shapes, which is made once and lent down.
 ghost use mathlib.Core.Path.{_≡_};
 ghost use mathlib.Core.Bool.{_&&_};
@@ -12,7 +12,7 @@ use records::Record;
 use shapes::rows::Shapes;
 use word_table::rows::Words;
 
-// The paper's refusals, in its order (specs/Refusal has their numbers). The check gives all but the first and the last.
+// 01's refusals, in its order (specs/Refusal has their numbers). The check gives all but the first and the last.
 pub enum Refusal {
     SettingsOutOfRange,
     RecordsOutOfSize,
@@ -40,7 +40,7 @@ const FIRST_TEXT: u8 = 2;
 
 // Is the count 0 where there must be one?
 fn count_missing(t: &Shapes, row: usize, n: u16) -> bool
-    requires { ⌜ row + ShapeTable.rowSize ≤ ShapeTable.firstClassRow ⌝ }
+    requires { ⌜ row + ShapeTable.row-size ≤ ShapeTable.first-class-row ⌝ }
     ensures { λ r. ⌜ r ≡ Check.countMissing (ShapeTable.shapeAt (now (t .entry)) row .count) n ⌝ }
 {
     match shapes::cell(t, row + 1) {
@@ -55,7 +55,7 @@ fn count_missing(t: &Shapes, row: usize, n: u16) -> bool
 
 // Is the count not 0, and not used?
 fn count_set(t: &Shapes, row: usize, n: u16) -> bool
-    requires { ⌜ row + ShapeTable.rowSize ≤ ShapeTable.firstClassRow ⌝ }
+    requires { ⌜ row + ShapeTable.row-size ≤ ShapeTable.first-class-row ⌝ }
     ensures { λ r. ⌜ r ≡ Check.countSet (ShapeTable.shapeAt (now (t .entry)) row .count) n ⌝ }
 {
     match shapes::cell(t, row + 1) {
@@ -67,7 +67,7 @@ fn count_set(t: &Shapes, row: usize, n: u16) -> bool
 
 // Is a or b not 0, and not used?
 fn field_set(t: &Shapes, row: usize, a: u32, b: u32) -> bool
-    requires { ⌜ row + ShapeTable.rowSize ≤ ShapeTable.firstClassRow ⌝ }
+    requires { ⌜ row + ShapeTable.row-size ≤ ShapeTable.first-class-row ⌝ }
     ensures { λ r. ⌜ r ≡ Check.fieldSet (ShapeTable.shapeAt (now (t .entry)) row .fields) a b ⌝ }
 {
     match shapes::cell(t, row) {
@@ -81,7 +81,7 @@ fn field_set(t: &Shapes, row: usize, a: u32, b: u32) -> bool
 
 // Does a text end beyond the names? The sum of two 32 bits is taken in 64.
 fn text_beyond(t: &Shapes, row: usize, names: &[u8], a: u32, b: u32) -> bool
-    requires { ⌜ row + ShapeTable.rowSize ≤ ShapeTable.firstClassRow ⌝ }
+    requires { ⌜ row + ShapeTable.row-size ≤ ShapeTable.first-class-row ⌝ }
     ensures { λ r. ⌜ r ≡ Check.textBeyond (now (names .entry)) (ShapeTable.shapeAt (now (t .entry)) row .fields) a b ⌝ }
 {
     match shapes::cell(t, row) {
@@ -95,7 +95,7 @@ fn text_beyond(t: &Shapes, row: usize, names: &[u8], a: u32, b: u32) -> bool
 
 // Is a text not in its form?
 fn text_misformed(t: &Shapes, words: &Words, row: usize, text: &[u8]) -> bool
-    requires { ⌜ (row + ShapeTable.rowSize ≤ ShapeTable.firstClassRow) × (now words ≡ WordTable.table) ⌝ }
+    requires { ⌜ (row + ShapeTable.row-size ≤ ShapeTable.first-class-row) × (now words ≡ WordTable.table) ⌝ }
     ensures { λ r. ⌜ r ≡ Check.textMisformed (ShapeTable.shapeAt (now (t .entry)) row .fields) (now (text .entry)) ⌝ }
 {
     match shapes::cell(t, row) {
@@ -112,8 +112,8 @@ fn text_misformed(t: &Shapes, words: &Words, row: usize, text: &[u8]) -> bool
 
 // What record i holds, where it must have the shape of this row.
 fn contents(t: &Shapes, words: &Words, names: &[u8], i: usize, row: usize, r: Record) -> Checked
-    requires { ⌜ (i + 1 < 2 ^ 64) × (row + ShapeTable.rowSize ≤ ShapeTable.firstClassRow) × (now words ≡ WordTable.table) ⌝ }
-    ensures { λ o. ⌜ o ≡ Check.judged i (Check.first (Check.contentFaults (now (names .entry)) (ShapeTable.shapeAt (now (t .entry)) row) r)) ⌝ }
+    requires { ⌜ (i + 1 < 2 ^ 64) × (row + ShapeTable.row-size ≤ ShapeTable.first-class-row) × (now words ≡ WordTable.table) ⌝ }
+    ensures { λ o. ⌜ o ≡ Check.judged i (Check.firstFound (Check.contentFaults (now (names .entry)) (ShapeTable.shapeAt (now (t .entry)) row) r)) ⌝ }
 {
     if count_missing(t, row, r.count) {
         return Checked::Refused(Refusal::CountMissing, i);

@@ -8,7 +8,7 @@ use native.Mathlib.Omega.{arith}
 use lib.Dec.{eqb·suc-zero}
 use lib.ListN.{length}
 use Rattle.words.specs.Bytes.{bytes}
-use Rattle.records.specs.Record.{recordSize, recordIn, recordAt}
+use Rattle.records.specs.Record.{record-size, recordIn, recordAt}
 use Rattle.records.proofs.Laws.{record-here, count-whole}
 use Rattle.records.proofs.Made.{plain, named}
 use Rattle.shapes.specs.Class.{Class}
@@ -35,7 +35,7 @@ unfoldable pub chain : ℕ → List ℕ
 chain zero = variable
 chain (suc n) = unary ++ chain n
 
-chain-length : (n : ℕ) → length (chain n) ≡ recordSize * suc n
+chain-length : (n : ℕ) → length (chain n) ≡ record-size * suc n
 unfolding chain
 chain-length zero = refl
 chain-length (suc n) = let e = chain-length n in omega arith

@@ -8,7 +8,7 @@ use Prim.Native.Char.{code}
 use native.Mathlib.Omega.{arith}
 use lib.ListN.{replicate}
 use Rattle.words.specs.Bytes.{bytes}
-use Rattle.records.specs.Record.{recordSize}
+use Rattle.records.specs.Record.{record-size}
 use Rattle.records.proofs.Made.{rec, plain, many, named}
 use Rattle.shapes.specs.Class.{Class}
 use Rattle.accept.specs.declared.Refusal.{Refusal}
@@ -119,7 +119,7 @@ refused =
     ++ no-expr (var 0 ++ var 0) "x" Why.RecordsLeftOver 1
     ++ no-unit (many 80 0 ++ declared 0 ++ keyword 2) "x" Why.RecordsLeftOver 1
 
--- two faults, of which the first in the paper's order is refused
+-- two faults, of which the first in 01's order is refused
 abbrev ordered : List Case
 ordered =
     -- at one record: 5 and 7; 7 and 8; 7 and 9; 8 and 9; 9 and 10; 9 and 11; 10 and 11 (a text beyond the names has no form)
@@ -142,8 +142,8 @@ ordered =
 abbrev edges : List Case
 edges =
     -- 2: the first of 4,096 records of zeros is refused for its kind; one more record, and all are
-    row Class.expr (replicate (recordSize * 4096) 0) [] (Refused Why.KindNotAllowed 0)
-    ++ row Class.expr (replicate (recordSize * 4097) 0) [] (Refused Why.RecordsOutOfSize 0)
+    row Class.expr (replicate (record-size * 4096) 0) [] (Refused Why.KindNotAllowed 0)
+    ++ row Class.expr (replicate (record-size * 4097) 0) [] (Refused Why.RecordsOutOfSize 0)
     -- 3: 32,768 bytes of names, and one more; but 2 comes first
     ++ row Class.expr (var 0) (replicate 32768 (code "x")) (Next 1)
     ++ row Class.expr (var 0) (replicate 32769 (code "x")) (Refused Why.NamesOutOfSize 0)

@@ -8,7 +8,7 @@ use native.Mathlib.Omega.{arith}
 use lib.Dec.{ltb, leb·suc-suc}
 use lib.ListN.{length, length-append}
 use lib.Seq.{getD-append-add}
-use Rattle.records.specs.Record.{recordSize, byteAt, u16At, u32At, recordIn, recordCount, recordAt}
+use Rattle.records.specs.Record.{record-size, byteAt, u16At, u32At, recordIn, recordCount, recordAt}
 use Rattle.shapes.specs.Class.{Class}
 use Rattle.accept.specs.declared.Refusal.{Refusal}
 use Rattle.accept.specs.declared.Refusal.the-variants.{RecordMissing}
@@ -29,22 +29,22 @@ each-later : (f g : Class → ℕ → Checked) → ((c : Class) (i : ℕ) → f 
 each-later f g h [] i = refl
 each-later f g h (c ∷ cs) i = rw (h c i) (bind-later (g c i) (each f cs) (each g cs) (each-later f g h cs))
 
-module _ (r bs : List ℕ) (one : length r ≡ recordSize) where
+module _ (r bs : List ℕ) (one : length r ≡ record-size) where
   pub count-behind : recordCount (r ++ bs) ≡ suc (recordCount bs)
   unfolding recordCount
   count-behind = let e = length-append r bs in omega arith
 
   -- q in the whole is p behind the record
-  byte-behind : (q p : ℕ) → q ≡ recordSize + p → byteAt (r ++ bs) q ≡ byteAt bs p
+  byte-behind : (q p : ℕ) → q ≡ record-size + p → byteAt (r ++ bs) q ≡ byteAt bs p
   byte-behind q p e = ap (byteAt (r ++ bs)) (e ∙ ap (λ (n : ℕ). n + p) (sym one)) ∙ getD-append-add r bs p 0
 
-  two-behind : (q p : ℕ) → q ≡ recordSize + p → u16At (r ++ bs) q ≡ u16At bs p
+  two-behind : (q p : ℕ) → q ≡ record-size + p → u16At (r ++ bs) q ≡ u16At bs p
   two-behind q p e = λ t. byte-behind q p e t + 256 * byte-behind (q + 1) (p + 1) (omega arith) t
 
-  four-behind : (q p : ℕ) → q ≡ recordSize + p → u32At (r ++ bs) q ≡ u32At bs p
+  four-behind : (q p : ℕ) → q ≡ record-size + p → u32At (r ++ bs) q ≡ u32At bs p
   four-behind q p e = λ t. two-behind q p e t + 65536 * two-behind (q + 2) (p + 2) (omega arith) t
 
-  in-behind : (q p : ℕ) → q ≡ recordSize + p → recordIn (r ++ bs) q ≡ recordIn bs p
+  in-behind : (q p : ℕ) → q ≡ record-size + p → recordIn (r ++ bs) q ≡ recordIn bs p
   unfolding recordIn
   in-behind q p e = λ t. record {
     kind = byte-behind q p e t;
@@ -56,7 +56,7 @@ module _ (r bs : List ℕ) (one : length r ≡ recordSize) where
 
   pub record-later : (i : ℕ) → recordAt (r ++ bs) (suc i) ≡ recordAt bs i
   unfolding recordAt
-  record-later i = rw (count-behind, leb·suc-suc (suc i) (recordCount bs), in-behind (recordSize * suc i) (recordSize * i) (omega arith)) refl
+  record-later i = rw (count-behind, leb·suc-suc (suc i) (recordCount bs), in-behind (record-size * suc i) (record-size * i) (omega arith)) refl
 
   module _ (names : List ℕ) where
     judged-later : (i : ℕ) (b : Bool) (f : Option Refusal)

@@ -92,7 +92,7 @@ module _ (records names : List ℕ) where
   pub all-taken : (c : Class) (m : ℕ) → check records names c ≡ Next m → m ≡ n
   all-taken c m e = subst (Placed n) e (placed c)
 
--- so no place is beyond the record count, and the paper's number is one of 2 to 12
+-- so no place is beyond the record count, and 01's number is one of 2 to 12
 pub in-range : (n : ℕ) (x : Refusal) (p : ℕ) → Stands n x p → (p ≤ n) × (2 ≤ number x) × (number x ≤ 12)
 in-range n Why.SettingsOutOfRange p h = absurd h
 in-range n Why.RecordsOutOfSize p h = (omega arith, omega arith, omega arith)

@@ -8,7 +8,7 @@ use native.Mathlib.Omega.{arith}
 use lib.Dec.{eqb, ltb}
 use lib.ListN.{length}
 use borrow.Author.Tests.{ltb-false, eq-eqb, ne-eqb, lt-ltb, le-ltb}
-use Rattle.records.specs.Record.{recordSize, recordCount}
+use Rattle.records.specs.Record.{record-size, recordCount}
 use Rattle.shapes.specs.Class.{Class}
 use Rattle.accept.specs.declared.Refusal.the-variants as Why
 use Rattle.accept.specs.declared.Checked.{Checked}
@@ -21,17 +21,17 @@ module _ (records names : List ℕ) where
   pub no-records : length records ≡ 0 → recordsOutOfSize records ≡ true
   no-records e = rw (eq-eqb (length records) 0 e) refl
 
-  pub part-of-one : 0 < length records % recordSize → recordsOutOfSize records ≡ true
-  part-of-one h = rw (ne-eqb (length records % recordSize) 0 (λ e. omega arith), or-true (eqb (length records) 0)) refl
+  pub part-of-one : 0 < length records % record-size → recordsOutOfSize records ≡ true
+  part-of-one h = rw (ne-eqb (length records % record-size) 0 (λ e. omega arith), or-true (eqb (length records) 0)) refl
 
-  pub too-many : recordSize * most-records < length records → recordsOutOfSize records ≡ true
-  too-many h = rw (lt-ltb (recordSize * most-records) (length records) h) (or-true (eqb (length records) 0 || not (eqb (length records % recordSize) 0)))
+  pub too-many : record-size * most-records < length records → recordsOutOfSize records ≡ true
+  too-many h = rw (lt-ltb (record-size * most-records) (length records) h) (or-true (eqb (length records) 0 || not (eqb (length records % record-size) 0)))
 
-  pub so-many : (n : ℕ) → length records ≡ recordSize * n → 0 < n → n ≤ most-records → recordsOutOfSize records ≡ false
+  pub so-many : (n : ℕ) → length records ≡ record-size * n → 0 < n → n ≤ most-records → recordsOutOfSize records ≡ false
   so-many n e h k =
       let some = ne-eqb (length records) 0 (λ z. omega arith) in
-      let whole = eq-eqb (length records % recordSize) 0 (omega arith) in
-      let few = le-ltb (recordSize * most-records) (length records) (omega arith) in
+      let whole = eq-eqb (length records % record-size) 0 (omega arith) in
+      let few = le-ltb (record-size * most-records) (length records) (omega arith) in
       rw (some, whole, few) refl
 
   module _ (c : Class) where
@@ -82,5 +82,5 @@ module _ (records names : List ℕ) where
     unfolding recordCount
     few-records m e =
         let n = length records in
-        let p = neither (eqb n 0 || not (eqb (n % recordSize) 0)) (ltb (recordSize * most-records) n) .0 (check-next m e .0) in
-        omega (arith, ltb-false (recordSize * most-records) n (p .1))
+        let p = neither (eqb n 0 || not (eqb (n % record-size) 0)) (ltb (record-size * most-records) n) .0 (check-next m e .0) in
+        omega (arith, ltb-false (record-size * most-records) n (p .1))

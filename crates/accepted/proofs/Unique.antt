@@ -1,4 +1,4 @@
--- The outcome of the record check is unique: two answers that its contract allows are equal, and so are their numbers and places in the paper. These
+-- The outcome of the record check is unique: two answers that its contract allows are equal, and so are their numbers and places in 01. These
 -- two say all of an answer. Assumes nothing.
 use mathlib.Core.Path.{_≡_, refl, sym, _∙_, ap}
 use mathlib.Core.List.{List, [], _∷_}
@@ -11,7 +11,7 @@ use Rattle.accept.specs.declared.Refusal.{Refusal}
 use Rattle.accept.specs.declared.Refusal.the-variants as Why
 use Rattle.accept.specs.declared.Checked.{Checked}
 use Rattle.accept.specs.declared.Checked.the-variants.{Next, Refused}
-use Rattle.accept.specs.Refusal.{number, refusalNumber, place}
+use Rattle.accept.specs.Refusal.{number, checkedNumber, checkedPlace}
 use Rattle.accept.specs.Check.{check}
 
 -- the contract of `check_unit` allows an answer r with r ≡ check records names Class.unit, that of `check_expr` with Class.expr
@@ -19,8 +19,8 @@ module _ (records names : List ℕ) (c : Class) (r s : Checked) (p : r ≡ check
   pub unique : r ≡ s
   unique = p ∙ sym q
 
-  pub unique-told : (refusalNumber r ≡ refusalNumber s) × (place r ≡ place s)
-  unique-told = (ap refusalNumber unique, ap place unique)
+  pub unique-told : (checkedNumber r ≡ checkedNumber s) × (checkedPlace r ≡ checkedPlace s)
+  unique-told = (ap checkedNumber unique, ap checkedPlace unique)
 
 -- the refusal of each number
 abbrev numbered : ℕ → Option Refusal
@@ -67,7 +67,7 @@ number-not-zero x e =
     omega arith
 
 -- number and place tell answers apart
-pub told : (r s : Checked) → refusalNumber r ≡ refusalNumber s → place r ≡ place s → r ≡ s
+pub told : (r s : Checked) → checkedNumber r ≡ checkedNumber s → checkedPlace r ≡ checkedPlace s → r ≡ s
 told (Next m) (Next k) e f = ap Next f
 told (Next m) (Refused y q) e f = absurd (number-not-zero y (sym e))
 told (Refused x p) (Next k) e f = absurd (number-not-zero x e)

@@ -7,26 +7,26 @@ use mir.Syntax.{w64}
 use mir.Val.{SFits}
 use lib.IntN.{pos, negℤ}
 use lib.ListN.{length}
-use Rattle.records.specs.Record.{recordSize, recordCount}
+use Rattle.records.specs.Record.{record-size, recordCount}
 use Rattle.records.proofs.Laws.{split}
 use Rattle.shapes.specs.Class.{Class}
 use Rattle.accept.specs.declared.Checked.{Checked}
 use Rattle.accept.specs.declared.Checked.the-variants.{Next, Refused}
-use Rattle.accept.specs.Refusal.{place}
+use Rattle.accept.specs.Refusal.{checkedPlace}
 use Rattle.accept.specs.Check.{most-records, check}
 use Rattle.accepted.specs.Placed.{Placed}
 use Rattle.accepted.proofs.Places.{placed, in-range}
 use Rattle.accepted.proofs.Sizes.{too-many, records-refused}
 
-placed-within : (n : ℕ) (o : Checked) → Placed n o → place o ≤ n
+placed-within : (n : ℕ) (o : Checked) → Placed n o → checkedPlace o ≤ n
 placed-within n (Next m) h = omega (arith, h)
 placed-within n (Refused x p) h = in-range n x p h .0
 
-pub place-small : (records names : List ℕ) (c : Class) → place (check records names c) ≤ most-records
+pub place-small : (records names : List ℕ) (c : Class) → checkedPlace (check records names c) ≤ most-records
 unfolding recordCount
-place-small records names c = split (recordSize * most-records) (length records)
+place-small records names c = split (record-size * most-records) (length records)
     (λ h.
-    let e = ap place (records-refused records names c (too-many records names h)) in
+    let e = ap checkedPlace (records-refused records names c (too-many records names h)) in
     omega arith)
     (λ h.
     let k = placed-within (recordCount records) (check records names c) (placed records names c) in

@@ -10,7 +10,7 @@ use Rattle.accept.specs.Refusal.{number}
 unfoldable pub refusalAnswer : Refusal → ℕ → ℤ
 refusalAnswer x p = negℤ (pos (number x * 2 ^ 32 + p))
 
--- the check's: how many records there are
+-- the record check's, for the oracle's harness: how many records there are
 unfoldable pub answer : Checked → ℤ
 answer (Next m) = pos m
 answer (Refused x p) = refusalAnswer x p

@@ -3,13 +3,13 @@
 ghost use mathlib.Core.Path.{_≡_};
 ghost use Prim.Native.Nat.{_^_, _<_, _≤_};
 ghost use Rattle.shapes.specs.Class.{Class};
-ghost use Rattle.accept.specs.Refusal.{number, place};
+ghost use Rattle.accept.specs.Refusal.{number, checkedPlace};
 ghost use Rattle.accept.specs.Check.{check};
 ghost use Rattle.checks.specs.Answer.{refusalAnswer, answer};
 use accept::Checked;
 use accept::Refusal;
 
-// The paper's number of a refusal.
+// 01's number of a refusal.
 pub fn number_of(x: Refusal) -> u64
     ensures { λ r. ⌜ (r ≡ number x) × (r ≤ 13) ⌝ }
 {
@@ -41,7 +41,7 @@ pub fn refusal_answer(x: Refusal, place: usize) -> i64
 
 // The check's answer: how many records there are, or the refusal.
 fn answer_of(o: Checked) -> i64
-    requires { ⌜ place o < 2 ^ 32 ⌝ }
+    requires { ⌜ checkedPlace o < 2 ^ 32 ⌝ }
     ensures { λ r. ⌜ r ≡ answer o ⌝ }
 {
     match o {

@@ -20,8 +20,7 @@ use Rattle.bounded.proofs.Narrow.{narrow-read}
 use Rattle.bounded.proofs.Free.{unit-free, expr-free}
 use Rattle.glsl.specs.declared.Root.{Root}
 use Rattle.glsl.specs.declared.Root.the-variants as Root
-use Rattle.glsl.specs.Root.{rootClass, rootText, rootCommands}
-use Rattle.glsl.specs.Printed.{start, value, printOutcome}
+use Rattle.glsl.specs.Root.{rootClass, rootText, rootCommands, start, value, printOutcome}
 use Rattle.glsl.proofs.Outcome.{outcome-small}
 
 -- the text by the settings that the bytes say

@@ -21,7 +21,8 @@ use Rattle.pen.proofs.Written.{ran-length, pen-text, room-text}
 use Rattle.leaves.specs.Shown.{Shows}
 use Rattle.glsl.specs.declared.Printed.{Printed}
 use Rattle.glsl.specs.declared.Printed.the-variants.{Text, Refused}
-use Rattle.glsl.specs.Printed.{start, fitted, roomAfter, Prints}
+use Rattle.glsl.specs.Printed.{fitted, roomAfter, Prints}
+use Rattle.glsl.specs.Root.{start}
 
 -- an answer and a room, by the outcome
 module _ {text room : List ℕ} {o : Printed} where

@@ -15,11 +15,12 @@ use Rattle.accept.specs.declared.Refusal.{Refusal}
 use Rattle.accept.specs.declared.Refusal.the-variants as Why
 use Rattle.accept.specs.declared.Checked.{Checked}
 use Rattle.accept.specs.declared.Checked.the-variants as Check
-use Rattle.accept.specs.Refusal.{place}
+use Rattle.accept.specs.Refusal.{checkedPlace}
 use Rattle.accept.specs.Check.{most-records}
 use Rattle.glsl.specs.declared.Printed.{Printed}
 use Rattle.glsl.specs.declared.Printed.the-variants.{Text, Refused}
-use Rattle.glsl.specs.Printed.{fitted, outcome, roomAfter, Prints, writtenLength, front, value}
+use Rattle.glsl.specs.Printed.{fitted, outcome, roomAfter, Prints, front}
+use Rattle.glsl.specs.Root.{writtenLength, value}
 
 module _ (r : SettingsRead) (c : Checked) (t room : List ℕ) where
   pub settings-refused : r ≡ Settings.Refused → outcome r c t room ≡ Refused Why.SettingsOutOfRange 0
@@ -49,7 +50,7 @@ fitted-value t room = go (leb (length t) (length room))
     go true = refl
     go false = refl
 
-pub outcome-small : (r : SettingsRead) (c : Checked) (t room : List ℕ) → place c ≤ most-records
+pub outcome-small : (r : SettingsRead) (c : Checked) (t room : List ℕ) → checkedPlace c ≤ most-records
     → ((s : Settings) (m : ℕ) → r ≡ Settings.Read s → c ≡ Check.Next m → length t < 2 ^ 32) → value (outcome r c t room) < 2 ^ 32
 unfolding outcome
 outcome-small Settings.Refused c t room near short = omega arith

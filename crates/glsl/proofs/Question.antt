@@ -10,7 +10,7 @@ use Rattle.shapes.specs.Class.{Class}
 use Rattle.accept.specs.declared.Refusal.{Refusal}
 use Rattle.accept.specs.declared.Checked.{Checked}
 use Rattle.accept.specs.declared.Checked.the-variants as Check
-use Rattle.accept.specs.Refusal.{place}
+use Rattle.accept.specs.Refusal.{checkedPlace}
 use Rattle.accept.specs.Check.{most-records, check}
 use Rattle.accepted.proofs.Places.{refused-there, in-range}
 use Rattle.checks.proofs.Small.{place-small}
@@ -19,30 +19,30 @@ use Rattle.joined.specs.Stack.{anyJoined}
 use Rattle.joined.proofs.Answer.{answer}
 use Rattle.glsl.specs.declared.Whether.{Whether}
 use Rattle.glsl.specs.declared.Whether.the-variants.{No, Yes, Refused}
-use Rattle.glsl.specs.Joined.{judged, joinedOutcome, joinedNumber, joinedPlace}
+use Rattle.glsl.specs.Joined.{whetherJoined, joinedOutcome, joinedNumber, joinedPlace}
 
-judged-place : (o : Checked) (b : Bool) → place o ≤ most-records → joinedPlace (judged o b) < 2 ^ 32
-unfolding judged
+judged-place : (o : Checked) (b : Bool) → checkedPlace o ≤ most-records → joinedPlace (whetherJoined o b) < 2 ^ 32
+unfolding whetherJoined
 judged-place (Check.Refused x p) b h = omega arith
 judged-place (Check.Next m) true h = omega arith
 judged-place (Check.Next m) false h = omega arith
 
-judged-refused : (o : Checked) (b : Bool) (x : Refusal) (p : ℕ) → judged o b ≡ Refused x p → o ≡ Check.Refused x p
-unfolding judged
+judged-refused : (o : Checked) (b : Bool) (x : Refusal) (p : ℕ) → whetherJoined o b ≡ Refused x p → o ≡ Check.Refused x p
+unfolding whetherJoined
 judged-refused (Check.Refused y q) b x p e = cc
 judged-refused (Check.Next m) true x p e = let z : _≡_ {A = ℕ} 0 1 = cc in absurd (omega arith)
 judged-refused (Check.Next m) false x p e = let z : _≡_ {A = ℕ} 0 1 = cc in absurd (omega arith)
 
 module _ (records names : List ℕ) where
   pub question-refused : (x : Refusal) (p : ℕ) → check records names Class.expr ≡ Check.Refused x p → joinedOutcome records names ≡ Refused x p
-  unfolding judged
-  question-refused x p e = ap (λ (o : Checked). judged o (joinedAnswer records names)) e
+  unfolding whetherJoined
+  question-refused x p e = ap (λ (o : Checked). whetherJoined o (joinedAnswer records names)) e
 
   pub question-answered : (byte : (p : ℕ) → getD records p 0 < 256) (m : ℕ) → check records names Class.expr ≡ Check.Next m
       → {a : Bool} (b : Bool) → a ≡ anyJoined records → a ≡ b → joinedOutcome records names ≡ cond b Yes No
-  unfolding judged
+  unfolding whetherJoined
   question-answered byte m e b f g =
-      ap (λ (o : Checked). judged o (joinedAnswer records names)) e
+      ap (λ (o : Checked). whetherJoined o (joinedAnswer records names)) e
       ∙ ap (λ (x : Bool). cond x Yes No) (sym (answer records names byte m e) ∙ sym f ∙ g)
 
   pub question-small : joinedPlace (joinedOutcome records names) < 2 ^ 32

@@ -9,7 +9,7 @@ use lib.Dec.{eqb}
 use lib.ListN.{length, replicate}
 use Rattle.accept.specs.declared.Refusal.the-variants.{RoomTooSmall}
 use Rattle.accepted.proofs.Case.{computing as checking}
-use Rattle.text.proofs.Case.{Case}
+use Rattle.text.specs.Case.{Case}
 use Rattle.text.proofs.Rows.{rows-of-01}
 use Rattle.text.proofs.Computing.{computing}
 use Rattle.glsl.specs.declared.Printed.{Printed}
@@ -18,9 +18,9 @@ use Rattle.glsl.specs.declared.Whether.{Whether}
 use Rattle.glsl.specs.declared.Whether.the-variants.{No, Yes}
 use Rattle.glsl.specs.declared.Root.{Root}
 use Rattle.glsl.specs.declared.Root.the-variants.{Unit, Expr}
-use Rattle.glsl.specs.Root.{rootText}
-use Rattle.glsl.specs.Printed.{fitted, outcome, roomAfter, front, printOutcome}
-use Rattle.glsl.specs.Joined.{judged, joinedOutcome}
+use Rattle.glsl.specs.Root.{rootText, printOutcome}
+use Rattle.glsl.specs.Printed.{fitted, outcome, roomAfter, front}
+use Rattle.glsl.specs.Joined.{whetherJoined, joinedOutcome}
 
 -- text's table has the rows, with their texts as they are quoted
 abbrev pub rows : List Case
@@ -79,7 +79,7 @@ claimed room c =
     }
 
 pub match : (room : List ℕ) → map (promised room) rows ≡ map (claimed room) rows
-unfolding computing checking fitted outcome judged
+unfolding computing checking fitted outcome whetherJoined
 match room = refl
 
 -- 14 expressions and 3 units, each in TIGHT and in OPEN

@@ -1,5 +1,5 @@
 -- The outcome of each public call is unique: any two that its contract allows are equal, in answer, place and every byte of the room, or of the part that is handed back.
--- Each law has the call's name and, before its arrows, what its contract promises, twice. And an answer's number in the paper and its length or place say all of it.
+-- Each law has the call's name and, before its arrows, what its contract promises, twice. And an answer's number in 01 and its length or place say all of it.
 -- Assumes nothing.
 use mathlib.Core.Path.{_≡_, sym, _∙_, ap}
 use mathlib.Core.List.{List}
@@ -13,8 +13,8 @@ use Rattle.glsl.specs.declared.Printed.the-variants.{Text, Refused}
 use Rattle.glsl.specs.declared.Whether.{Whether}
 use Rattle.glsl.specs.declared.Root.{Root}
 use Rattle.glsl.specs.declared.Root.the-variants as Root
-use Rattle.glsl.specs.Root.{rootText}
-use Rattle.glsl.specs.Printed.{Prints, refusalNumber, refusalPlace, value, front, roomAfter, printedBits, printOutcome}
+use Rattle.glsl.specs.Root.{rootText, value, printOutcome}
+use Rattle.glsl.specs.Printed.{Prints, refusalNumber, refusalPlace, front, roomAfter, printedBits}
 use Rattle.glsl.specs.Joined.{joinedOutcome, joinedBits}
 
 -- two things that are a third
@@ -71,7 +71,7 @@ glsl-joined records names = one-value
 pub name : (records names : List ℕ) (i : ℕ) {part₁ part₂ : List ℕ} → part₁ ≡ nameAt records names i → part₂ ≡ nameAt records names i → part₁ ≡ part₂
 name records names i = one-value
 
--- an answer is told by its number in the paper, 0 for a text, and its length or place
+-- an answer is told by its number in 01, 0 for a text, and its length or place
 pub told : (r s : Printed) → refusalNumber r ≡ refusalNumber s → value r ≡ value s → r ≡ s
 told (Text m) (Text k) e f = ap Text f
 told (Text m) (Refused y q) e f = absurd (number-not-zero y (sym e))

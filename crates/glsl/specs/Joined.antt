@@ -14,14 +14,14 @@ use Rattle.text.specs.Joined.{joinedAnswer}
 use Rattle.glsl.specs.declared.Whether.{Whether}
 use Rattle.glsl.specs.declared.Whether.the-variants as Answer
 
-unfoldable pub judged : Checked → Bool → Whether
-judged (Check.Refused x p) b = Answer.Refused x p
-judged (Check.Next m) b = cond b Answer.Yes Answer.No
+unfoldable pub whetherJoined : Checked → Bool → Whether
+whetherJoined (Check.Refused x p) b = Answer.Refused x p
+whetherJoined (Check.Next m) b = cond b Answer.Yes Answer.No
 
 abbrev pub joinedOutcome : (records names : List ℕ) → Whether
-joinedOutcome records names = judged (check records names Class.expr) (joinedAnswer records names)
+joinedOutcome records names = whetherJoined (check records names Class.expr) (joinedAnswer records names)
 
--- the paper's number and place; 0 is no refusal, which has no place
+-- 01's number and place; 0 is no refusal, which has no place
 abbrev pub joinedNumber : Whether → ℕ
 joinedNumber Answer.No = 0
 joinedNumber Answer.Yes = 0

@@ -1,3 +1,3 @@
-pub mod Root
 pub mod Printed
+pub mod Root
 pub mod Joined

@@ -1,4 +1,5 @@
--- What is printed (01, "Calls"): a unit (root 80) or an expression (root 1 to 16); the class that it is checked as, its text, and how it is read and shown. Assumes nothing.
+-- For the contracts of the functions within, which take what is printed, a unit or an expression, as an argument: the class that it is checked as, its text, how it is
+-- read and shown, and its outcome, which for either is what the public calls cite (specs/Printed). Assumes nothing.
 use mathlib.Core.List.{List}
 use Prim.Native.Nat.{ℕ}
 use Rattle.settings.specs.declared.Settings.{Settings}
@@ -9,6 +10,13 @@ use Rattle.text.specs.Text.{show-expr, show-translation-unit}
 use Rattle.text.specs.Reading as Reading
 use Rattle.text.specs.Reading.{Reader, from}
 use Rattle.text.specs.Whole.{unitText, exprText}
+use Rattle.settings.specs.Settings.{readSettings}
+use Rattle.settings.specs.State.{fresh}
+use Rattle.accept.specs.Check.{check}
+use Rattle.pen.specs.declared.Pen.{Pen}
+use Rattle.glsl.specs.declared.Printed.{Printed}
+use Rattle.glsl.specs.declared.Printed.the-variants as Answer
+use Rattle.glsl.specs.Printed.{outcome}
 use Rattle.glsl.specs.declared.Root.{Root}
 use Rattle.glsl.specs.declared.Root.the-variants as Root
 
@@ -20,7 +28,6 @@ abbrev pub rootText : Root → (settings records names : List ℕ) → List ℕ
 rootText Root.Unit = unitText
 rootText Root.Expr = exprText
 
--- for the contracts of the functions within
 abbrev pub RootTree : Root → Type 0
 RootTree Root.Unit = TranslationUnit
 RootTree Root.Expr = Expr
@@ -35,3 +42,20 @@ rootShow Root.Expr s = show-expr
 
 abbrev pub rootCommands : Root → Settings → (records names : List ℕ) → List Command
 rootCommands root s records names = rootShow root s (rootReader root (from records names 0) .tree)
+
+abbrev pub printOutcome : Root → (settings records names room : List ℕ) → Printed
+printOutcome root settings records names room = outcome (readSettings settings) (check records names (rootClass root)) (rootText root settings records names) room
+
+-- how long the written front of the room is
+abbrev pub writtenLength : Printed → ℕ
+writtenLength (Answer.Text n) = n
+writtenLength (Answer.Refused x p) = 0
+
+-- the number that goes with it, a length or a place
+abbrev pub value : Printed → ℕ
+value (Answer.Text n) = n
+value (Answer.Refused x p) = p
+
+-- where every print starts: at the front, before the first record, in a fresh state
+abbrev pub start : Pen
+start = record { at = 0; next = 0; state = fresh }

@@ -8,8 +8,8 @@ ghost use Rattle.text.specs.Pen.{text};
 ghost use Rattle.text.specs.Whole.{unitText, exprText};
 ghost use Rattle.pen.specs.Free.{Free};
 ghost use Rattle.leaves.specs.Shown.{Shows};
-ghost use Rattle.glsl.specs.Root.{rootClass, rootText, rootReader, rootShow, rootCommands};
-ghost use Rattle.glsl.specs.Printed.{start, fitted, roomAfter, Prints, writtenLength, front, refusalNumber, refusalPlace, value, printedBits, printOutcome, unitOutcome, exprOutcome};
+ghost use Rattle.glsl.specs.Root.{rootClass, rootText, rootReader, rootShow, rootCommands, start, writtenLength, value, printOutcome};
+ghost use Rattle.glsl.specs.Printed.{fitted, roomAfter, Prints, front, refusalNumber, refusalPlace, printedBits, unitOutcome, exprOutcome};
 ghost use Rattle.glsl.specs.Joined.{joinedOutcome, joinedPlace, joinedBits};
 use accept::Checked;
 use accept::Refusal;
@@ -32,7 +32,7 @@ enum Root {
     Expr,
 }
 
-// The answer of a print: the length of its text, or the refusal with its place. specs/Printed.antt gives the paper's number of each case.
+// The answer of a print: the length of its text, or the refusal with its place. specs/Printed.antt gives 01's number of each case.
 pub enum Printed {
     Text(usize),
     Refused(Refusal, usize),
@@ -146,7 +146,7 @@ pub fn print_expr_into(settings: &[u8], records: &[u8], names: &[u8], room: &mut
     print_into(Root::Expr, settings, records, names, room)
 }
 
-// The paper's number of an answer, 0 for a text.
+// 01's number of an answer, 0 for a text.
 fn number_of(o: Printed) -> u64
     ensures { λ r. ⌜ r ≡ refusalNumber o ⌝ }
 {
@@ -267,7 +267,7 @@ pub extern "C" fn glsl_print_expr(
     print_bits(Root::Expr, settings, records, names, room)
 }
 
-// The answer to the joined question. specs/Joined.antt gives the paper's number of each case.
+// The answer to the joined question. specs/Joined.antt gives 01's number of each case.
 pub enum Whether {
     No,
     Yes,

@@ -14,7 +14,8 @@ use Rattle.accept.specs.declared.Checked.{Checked}
 use Rattle.accept.specs.Refusal.{number}
 use Rattle.glsl.specs.declared.Printed.{Printed}
 use Rattle.glsl.specs.declared.Printed.the-variants as Answer
-use Rattle.glsl.specs.Printed.{outcome, Prints, writtenLength, front}
+use Rattle.glsl.specs.Printed.{outcome, Prints, front}
+use Rattle.glsl.specs.Root.{writtenLength}
 use Rattle.glsl.proofs.Outcome.{outcome-long, part-is, part-long}
 use Rattle.print.specs.Told.{refused, told, Added}
 

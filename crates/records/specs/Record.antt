@@ -6,8 +6,8 @@ use lib.ListN.{length, getD, take, drop}
 use lib.Dec.{leb, ltb, eqb}
 use Rattle.records.specs.declared.Record.{Record}
 
-abbrev pub recordSize : ℕ
-recordSize = 12
+abbrev pub record-size : ℕ
+record-size = 12
 
 abbrev pub byteAt : List ℕ → ℕ → ℕ
 byteAt bs p = getD bs p 0
@@ -30,14 +30,14 @@ recordIn bs p = record {
 
 -- how many whole records there are
 unfoldable pub recordCount : List ℕ → ℕ
-recordCount bs = length bs / recordSize
+recordCount bs = length bs / record-size
 
 abbrev pub no-record : Record
 no-record = record { kind = 0; variant = 0; count = 0; a = 0; b = 0 }
 
 -- record i, all 0 where no whole record stands
 unfoldable pub recordAt : List ℕ → ℕ → Record
-recordAt bs i = cond (ltb i (recordCount bs)) (recordIn bs (recordSize * i)) no-record
+recordAt bs i = cond (ltb i (recordCount bs)) (recordIn bs (record-size * i)) no-record
 
 -- the part of the names at offset a, length b: nothing where it ends beyond them
 unfoldable pub part : List ℕ → ℕ → ℕ → List ℕ

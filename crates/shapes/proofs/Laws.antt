@@ -5,15 +5,15 @@ use mathlib.Core.List.{List}
 use Prim.Native.Nat.{ℕ, _+_, _*_, _%_}
 use lib.Dec.{leb, eqb}
 use Rattle.shapes.specs.Class.{takesKind, takesVariant}
-use Rattle.shapes.specs.Table.{cell, firstClassRow, allowedAt, lastAt}
+use Rattle.shapes.specs.Table.{cell, first-class-row, allowedAt, lastAt}
 
 module _ (t : List ℕ) (c k : ℕ) {w x y : ℕ} where
-  pub kind-taken : {z : ℕ} → w ≡ c % 32 → x ≡ cell t (firstClassRow + 8 * w) → y ≡ cell t (firstClassRow + 8 * w + 1) → z ≡ cell t (firstClassRow + 8 * w + 2)
+  pub kind-taken : {z : ℕ} → w ≡ c % 32 → x ≡ cell t (first-class-row + 8 * w) → y ≡ cell t (first-class-row + 8 * w + 1) → z ≡ cell t (first-class-row + 8 * w + 2)
       → (leb x k && leb k y || eqb k z) ≡ takesKind (allowedAt t c) k
   unfolding allowedAt
   kind-taken e p q r = rw (p, q, r, e) refl
 
-  pub variant-taken : w ≡ c % 32 → x ≡ cell t (firstClassRow + 8 * w + 3) → y ≡ cell t (firstClassRow + 8 * w + 4) → (leb x k && leb k y) ≡ takesVariant (allowedAt t c) k
+  pub variant-taken : w ≡ c % 32 → x ≡ cell t (first-class-row + 8 * w + 3) → y ≡ cell t (first-class-row + 8 * w + 4) → (leb x k && leb k y) ≡ takesVariant (allowedAt t c) k
   unfolding allowedAt
   variant-taken e p q = rw (p, q, e) refl
 

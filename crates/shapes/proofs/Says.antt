@@ -12,8 +12,8 @@ use lib.ListN.{getD, drop}
 use lib.Seq.{drop-drop, getD-drop}
 use borrow.Author.Tests.{leb-true}
 use Rattle.shapes.specs.Class.{Allowed, allowed}
-use Rattle.shapes.specs.Shape.{Part, Shape, Row, rows, rowIn, lastVariant, shapeOf}
-use Rattle.shapes.specs.Table.{firstRow, firstClassRow, rowSize, most-classes, cell, classOf, classRow, allowedAt, lastAt, rowAt, partOf, partsAt, shapeAt, Shaped}
+use Rattle.shapes.specs.Shape.{Part, Shape, Row, rows, rowOf, lastVariant, shapeOf}
+use Rattle.shapes.specs.Table.{first-row, first-class-row, row-size, most-classes, cell, classOf, classRow, allowedAt, lastAt, rowAt, partOf, partsAt, shapeAt, Shaped}
 
 -- f at each number below n, the last first
 unfoldable pub below : {A : Type 0} → ℕ → (ℕ → A) → List A
@@ -94,13 +94,13 @@ unfoldable pub heads : List ℕ → List (List ℕ)
 heads t = cuts 2 256 t
 
 unfoldable pub read-classes : List ℕ → List Allowed
-read-classes t = let cs = cuts rowSize most-classes (drop firstClassRow t) in below most-classes (λ c. allowedIn (getD cs c []))
+read-classes t = let cs = cuts row-size most-classes (drop first-class-row t) in below most-classes (λ c. allowedIn (getD cs c []))
 
 unfoldable pub read-lasts : List ℕ → List ℕ
 read-lasts t = let hs = heads t in below 256 (λ k. head hs k 0)
 
 unfoldable pub said-lasts : List ℕ
-said-lasts = let rs = rows 0 in below 256 (λ k. rowIn k rs .last)
+said-lasts = let rs = rows 0 in below 256 (λ k. rowOf k rs .last)
 
 unfoldable pub read-within : List ℕ → List Bool
 read-within t = let hs = heads t in below 256 (λ k. leb (suc (head hs k 1 + head hs k 0)) row-count)
@@ -108,14 +108,14 @@ read-within t = let hs = heads t in below 256 (λ k. leb (suc (head hs k 1 + hea
 unfoldable pub read-shapes : List ℕ → List (List Shape)
 read-shapes t =
     let hs = heads t in
-    let rs = cuts rowSize row-count (drop firstRow t) in
+    let rs = cuts row-size row-count (drop first-row t) in
     below 256 (λ k. below (suc (head hs k 0)) (λ v. shapeAt (getD rs (head hs k 1 + v) []) 0))
 
 unfoldable pub said-shapes : List ℕ → List (List Shape)
 said-shapes t =
     let hs = heads t in
     let vs = rows-from 0 most-variants in
-    below 256 (λ k. below (suc (head hs k 0)) (λ v. rowIn k (getD vs v (rows v)) .shape))
+    below 256 (λ k. below (suc (head hs k 0)) (λ v. rowOf k (getD vs v (rows v)) .shape))
 
 -- what is to be equal
 pub record Test (t : List ℕ) : Type 0 where
@@ -129,10 +129,10 @@ module _ {t : List ℕ} (test : Test t) where
   unfolding read-classes
   class-in c =
       let d = c % most-classes in
-      let cs = cuts rowSize most-classes (drop firstClassRow t) in
-      let e : firstClassRow + rowSize * d ≡ classRow d = omega arith in
-      sym (allowed-cut t (firstClassRow + rowSize * d) d e)
-      ∙ ap allowedIn (sym (cut-at rowSize most-classes (drop firstClassRow t) d (omega arith) ∙ drop-drop (rowSize * d) firstClassRow t))
+      let cs = cuts row-size most-classes (drop first-class-row t) in
+      let e : first-class-row + row-size * d ≡ classRow d = omega arith in
+      sym (allowed-cut t (first-class-row + row-size * d) d e)
+      ∙ ap allowedIn (sym (cut-at row-size most-classes (drop first-class-row t) d (omega arith) ∙ drop-drop (row-size * d) first-class-row t))
       ∙ at (λ c. allowedIn (getD cs c [])) (λ c. allowed (classOf c)) most-classes d (omega arith) (test .classes)
 
   head-at : (k i : ℕ) → k < 256 → head (heads t) k i ≡ cell t (2 * k + i)
@@ -141,7 +141,7 @@ module _ {t : List ℕ} (test : Test t) where
 
   last-now : (k : ℕ) → k < 256 → head (heads t) k 0 ≡ lastVariant k
   unfolding read-lasts said-lasts lastVariant
-  last-now k h = at (λ k. head (heads t) k 0) (λ k. rowIn k (rows 0) .last) 256 k h (test .lasts)
+  last-now k h = at (λ k. head (heads t) k 0) (λ k. rowOf k (rows 0) .last) 256 k h (test .lasts)
 
   last-in : (k : ℕ) → k < 256 → lastAt t k ≡ lastVariant k
   last-in k h = let e : 2 * k ≡ 2 * k + 0 = omega arith in ap (cell t) e ∙ sym (head-at k 0 h) ∙ last-now k h
@@ -157,15 +157,15 @@ module _ {t : List ℕ} (test : Test t) where
   unfolding read-shapes said-shapes shapeOf
   shape-in k v h l =
       let hs = heads t in
-      let rs = cuts rowSize row-count (drop firstRow t) in
+      let rs = cuts row-size row-count (drop first-row t) in
       let vs = rows-from 0 most-variants in
       let row = head hs k 1 + v in
-      let here : firstRow + rowSize * row ≡ rowAt t k v = ap (λ (x : ℕ). firstRow + rowSize * (x + v)) (head-at k 1 h) in
-      ap (shapeAt t) (sym here) ∙ sym (shape-cut t (firstRow + rowSize * row))
-      ∙ ap (λ (u : List ℕ). shapeAt u 0) (sym (cut-at rowSize row-count (drop firstRow t) row (omega (arith, row-in k h, head-at k 1 h)) ∙ drop-drop (rowSize * row) firstRow t))
-      ∙ at (λ v. shapeAt (getD rs (head hs k 1 + v) []) 0) (λ v. rowIn k (getD vs v (rows v)) .shape) (suc (head hs k 0)) v (omega (arith, last-now k h))
-      (at (λ k. below (suc (head hs k 0)) (λ v. shapeAt (getD rs (head hs k 1 + v) []) 0)) (λ k. below (suc (head hs k 0)) (λ v. rowIn k (getD vs v (rows v)) .shape)) 256 k h (test .shapes))
-      ∙ ap (λ (rs : List Row). rowIn k rs .shape) (rows-of 0 most-variants v v (omega arith))
+      let here : first-row + row-size * row ≡ rowAt t k v = ap (λ (x : ℕ). first-row + row-size * (x + v)) (head-at k 1 h) in
+      ap (shapeAt t) (sym here) ∙ sym (shape-cut t (first-row + row-size * row))
+      ∙ ap (λ (u : List ℕ). shapeAt u 0) (sym (cut-at row-size row-count (drop first-row t) row (omega (arith, row-in k h, head-at k 1 h)) ∙ drop-drop (row-size * row) first-row t))
+      ∙ at (λ v. shapeAt (getD rs (head hs k 1 + v) []) 0) (λ v. rowOf k (getD vs v (rows v)) .shape) (suc (head hs k 0)) v (omega (arith, last-now k h))
+      (at (λ k. below (suc (head hs k 0)) (λ v. shapeAt (getD rs (head hs k 1 + v) []) 0)) (λ k. below (suc (head hs k 0)) (λ v. rowOf k (getD vs v (rows v)) .shape)) 256 k h (test .shapes))
+      ∙ ap (λ (rs : List Row). rowOf k rs .shape) (rows-of 0 most-variants v v (omega arith))
 
   pub says : Shaped t
   unfolding allowedAt classOf

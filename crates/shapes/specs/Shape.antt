@@ -116,17 +116,17 @@ rows v =
 abbrev pub no-row : Row
 no-row = kind 0 0 empty unused []
 
-abbrev pub rowIn : ℕ → List Row → Row
-rowIn k [] = no-row
-rowIn k (r ∷ rs) = cond (eqb k (r .number)) r (rowIn k rs)
+abbrev pub rowOf : ℕ → List Row → Row
+rowOf k [] = no-row
+rowOf k (r ∷ rs) = cond (eqb k (r .number)) r (rowOf k rs)
 
 -- the last variant of kind k
 unfoldable pub lastVariant : ℕ → ℕ
-lastVariant k = rowIn k (rows 0) .last
+lastVariant k = rowOf k (rows 0) .last
 
 -- the shape of the records of kind k and variant v
 unfoldable pub shapeOf : ℕ → ℕ → Shape
-shapeOf k v = rowIn k (rows v) .shape
+shapeOf k v = rowOf k (rows v) .shape
 
 -- the classes of the children of a record that counts n, in order
 unfoldable pub classes : ℕ → List Part → List Class

@@ -12,17 +12,17 @@ use Rattle.shapes.specs.Class.Class.{expr, callee, type, base, array, di
 use Rattle.shapes.specs.Shape.{Fields, Count, Part, Shape, lastVariant, shapeOf}
 
 -- where the rows and the rows of the classes begin, and where the table ends
-abbrev pub firstRow : ℕ
-firstRow = 512
+abbrev pub first-row : ℕ
+first-row = 512
 
-abbrev pub firstClassRow : ℕ
-firstClassRow = 2104
+abbrev pub first-class-row : ℕ
+first-class-row = 2104
 
 abbrev pub cells : ℕ
 cells = 2360
 
-abbrev pub rowSize : ℕ
-rowSize = 8
+abbrev pub row-size : ℕ
+row-size = 8
 
 -- how many parts a row has room for, and how many classes there may be
 abbrev pub most-parts : ℕ
@@ -40,7 +40,7 @@ unfoldable pub classOf : ℕ → Class
 classOf c = getD (expr ∷ callee ∷ type ∷ base ∷ array ∷ dimension ∷ field ∷ identifier ∷ qualifier ∷ spec ∷ precision ∷ layout-id ∷ full-type ∷ prototype ∷ parameter ∷ declarators ∷ single ∷ declarator ∷ initializer ∷ block ∷ declaration ∷ compound ∷ statement ∷ condition ∷ for-init ∷ external ∷ []) (c % most-classes) unit
 
 abbrev pub classRow : ℕ → ℕ
-classRow c = firstClassRow + rowSize * (c % most-classes)
+classRow c = first-class-row + row-size * (c % most-classes)
 
 unfoldable pub allowedAt : List ℕ → ℕ → Allowed
 allowedAt t c = record {
@@ -56,7 +56,7 @@ abbrev pub lastAt : List ℕ → ℕ → ℕ
 lastAt t k = cell t (2 * k)
 
 abbrev pub rowAt : List ℕ → ℕ → ℕ → ℕ
-rowAt t k v = firstRow + rowSize * (cell t (2 * k + 1) + v)
+rowAt t k v = first-row + row-size * (cell t (2 * k + 1) + v)
 
 -- a row: what a and b hold, what the count is, and the parts
 abbrev pub fieldsOf : ℕ → Fields
@@ -84,5 +84,5 @@ shapeAt t p = record { fields = fieldsOf (cell t p); count = countOf (cell t (p 
 pub record Shaped (t : List ℕ) : Type 0 where
   pub classes : (c : ℕ) → allowedAt t c ≡ allowed (classOf c)
   pub lasts : (k : ℕ) → k < 256 → lastAt t k ≡ lastVariant k
-  pub within : (k v : ℕ) → k < 256 → v ≤ lastVariant k → rowAt t k v + rowSize ≤ firstClassRow
+  pub within : (k v : ℕ) → k < 256 → v ≤ lastVariant k → rowAt t k v + row-size ≤ first-class-row
   pub shapes : (k v : ℕ) → k < 256 → v ≤ lastVariant k → shapeAt t (rowAt t k v) ≡ shapeOf k v

@@ -7,7 +7,7 @@ use Rattle.records.specs.declared.Record.{Record}
 use Rattle.records.specs.Record.{recordAt}
 use Rattle.shapes.specs.Class.{Class}
 use Rattle.shapes.specs.Shape.{Shape, lastVariant, classes}
-use Rattle.shapes.specs.Table.{firstClassRow, rowAt, partsAt, shapeAt, Shaped}
+use Rattle.shapes.specs.Table.{first-class-row, rowAt, partsAt, shapeAt, Shaped}
 use Rattle.accept.specs.declared.Checked.the-variants.{Next}
 use Rattle.accept.specs.Check.{each, childrenOf, alone, node}
 use Rattle.accept.proofs.Accepted.{alone-next, alone-deep, no-fault-variant}
@@ -36,7 +36,7 @@ module _ (t records names : List ℕ) (left : ℕ) (c : Class) (i : ℕ) (r : Re
         go zero e = alone-deep records names (0 < 0) c i m e
         go (suc left) e = omega arith
 
-    pub within : row + 8 ≤ firstClassRow
+    pub within : row + 8 ≤ first-class-row
     within = row-within (k .shaped) (r .kind) (r .variant) (k .small) fits (k .at-row)
 
     pub opened : node records names left c i ≡ partsLeft t (node records names (left - 1)) (r .count) row 0 m

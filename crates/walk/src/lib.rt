@@ -91,7 +91,7 @@ fn run(
     left: usize,
 ) -> Checked
     requires { ⌜ (ShapeTable.Shaped (now t)) × (now words ≡ WordTable.table) ⌝ }
-    ensures { λ r. ⌜ r ≡ Check.run (now (records .entry)) (now (names .entry)) left (ShapeTable.classOf c) n i ⌝ }
+    ensures { λ r. ⌜ r ≡ Check.nodes (now (records .entry)) (now (names .entry)) left (ShapeTable.classOf c) n i ⌝ }
 {
     let mut at = i;
     let mut k: usize = 0;

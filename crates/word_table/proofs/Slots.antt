@@ -13,7 +13,7 @@ use denote.Floats.{is-true}
 use Rattle.words.specs.Bytes.{bytes}
 use Rattle.words.specs.Word.{wordText, qualifierWords, jumpWords, boolWords, loneWords, otherWords}
 use Rattle.words.specs.Symbol.{symbolText, unaryOperators, binaryOperators, assignmentOperators}
-use Rattle.word_table.specs.Slot.{slotCount, slot, noWord, slotsOf, rowIn, each, slots}
+use Rattle.word_table.specs.Slot.{slot-count, slot, no-word, slotsOf, rowIn, each, slots}
 use Rattle.words.specs.Keyword.{typeKeywords, fixedWords}
 use Rattle.word_table.specs.Table.{flaw, operators, texts, rows, table, textAt}
 use Rattle.words.specs.Form.{same, oneOf}
@@ -35,35 +35,35 @@ rows-length : length (rows texts) ≡ first-slot
 unfolding texts fixedWords typeKeywords otherWords qualifierWords jumpWords boolWords loneWords wordText operators symbolText unaryOperators binaryOperators assignmentOperators
 rows-length = refl
 
-slots-length : length (slots fixedWords) ≡ slotCount
+slots-length : length (slots fixedWords) ≡ slot-count
 unfolding slots each
 slots-length = refl
 
 -- in a table t
 module _ (t : List ℕ) (is : t ≡ table) where
-  pub slot-here : (h : ℕ) → h < slotCount → getD t (first-slot + h) 0 ≡ rowIn (slotsOf fixedWords) h 0
+  pub slot-here : (h : ℕ) → h < slot-count → getD t (first-slot + h) 0 ≡ rowIn (slotsOf fixedWords) h 0
   unfolding table slots
   slot-here h l =
       ap (λ (l : List ℕ). getD l (first-slot + h) 0) is ∙ behind (rows texts) _ first-slot h rows-length
       ∙ List·getD-append (slots fixedWords) _ 0 h (omega (arith, slots-length))
-      ∙ each-at (λ h. rowIn (slotsOf fixedWords) h 0) 0 slotCount h l ∙ ap (λ (n : ℕ). rowIn (slotsOf fixedWords) n 0) (omega arith)
+      ∙ each-at (λ h. rowIn (slotsOf fixedWords) h 0) 0 slot-count h l ∙ ap (λ (n : ℕ). rowIn (slotsOf fixedWords) n 0) (omega arith)
 
   pub flaw-here : (x : ℕ) → x < 256 → getD t (first-flaw + x) 0 ≡ flaw x
   unfolding table
   flaw-here x l =
-      let e : first-flaw + x ≡ first-slot + (slotCount + x) = omega arith in
+      let e : first-flaw + x ≡ first-slot + (slot-count + x) = omega arith in
       ap (λ (l : List ℕ). getD l (first-flaw + x) 0) is ∙ ap (λ (n : ℕ). getD table n 0) e
-      ∙ behind (rows texts) _ first-slot (slotCount + x) rows-length ∙ behind (slots fixedWords) _ slotCount x slots-length
+      ∙ behind (rows texts) _ first-slot (slot-count + x) rows-length ∙ behind (slots fixedWords) _ slot-count x slots-length
       ∙ each-at flaw 0 256 x l ∙ ap flaw (omega arith)
 
 -- a row behind those of the words with these slots is that of the empty slot
-row-behind : (ss : List ℕ) (h k : ℕ) → k + length ss ≤ rowIn ss h k → rowIn ss h k ≡ noWord
+row-behind : (ss : List ℕ) (h k : ℕ) → k + length ss ≤ rowIn ss h k → rowIn ss h k ≡ no-word
 unfolding rowIn
 row-behind [] h k l = refl
 row-behind (s ∷ ss) h k l = by (eqb s h) l (row-behind ss h (suc k))
   where
-    by : (b : Bool) → k + suc (length ss) ≤ cond b k (rowIn ss h (suc k)) → (suc k + length ss ≤ rowIn ss h (suc k) → rowIn ss h (suc k) ≡ noWord)
-        → cond b k (rowIn ss h (suc k)) ≡ noWord
+    by : (b : Bool) → k + suc (length ss) ≤ cond b k (rowIn ss h (suc k)) → (suc k + length ss ≤ rowIn ss h (suc k) → rowIn ss h (suc k) ≡ no-word)
+        → cond b k (rowIn ss h (suc k)) ≡ no-word
     by true l later = absurd (omega arith)
     by false l later = later (omega arith)
 
@@ -84,7 +84,7 @@ slots-count : length (slotsOf fixedWords) ≡ words-count
 unfolding slotsOf fixedWords typeKeywords otherWords qualifierWords jumpWords boolWords loneWords
 slots-count = refl
 
-no-word-short : length (textAt noWord) ≡ 1
+no-word-short : length (textAt no-word) ≡ 1
 unfolding textAt texts fixedWords typeKeywords otherWords qualifierWords jumpWords boolWords loneWords wordText operators symbolText unaryOperators binaryOperators assignmentOperators
 no-word-short = refl
 

@@ -11,16 +11,16 @@ use Rattle.words.specs.Bytes.{bytes}
 abbrev pub byteOrLast : List ℕ → ℕ → ℕ
 byteOrLast s i = getD s (cond (ltb i (length s - 1)) i (length s - 1)) 0
 
-abbrev pub slotCount : ℕ
-slotCount = 512
+abbrev pub slot-count : ℕ
+slot-count = 512
 
 -- a text's slot (any other choice would do: by this one no two fixed words meet)
 abbrev pub slot : List ℕ → ℕ
-slot s = (16 * (getD s 0 0 + byteOrLast s 3) + 64 * getD s (length s - 1) 0 + getD s (length s - 2) 0 + byteOrLast s 4) % slotCount
+slot s = (16 * (getD s 0 0 + byteOrLast s 3) + 64 * getD s (length s - 1) 0 + getD s (length s - 2) 0 + byteOrLast s 4) % slot-count
 
 -- the row of an empty slot: that of `+`, which no text of two bytes or more is
-abbrev pub noWord : ℕ
-noWord = 96
+abbrev pub no-word : ℕ
+no-word = 96
 
 -- the slot of each word
 unfoldable pub slotsOf : List String → List ℕ
@@ -28,7 +28,7 @@ slotsOf = map (λ w. slot (bytes w))
 
 -- the row of the first word whose slot is h, where the first word has row k
 unfoldable pub rowIn : List ℕ → ℕ → ℕ → ℕ
-rowIn [] h k = noWord
+rowIn [] h k = no-word
 rowIn (s ∷ ss) h k = cond (eqb s h) k (rowIn ss h (suc k))
 
 -- f at each of the n numbers from k on
@@ -38,4 +38,4 @@ each f k (suc n) = f k ∷ each f (suc k) n
 
 -- the row for each slot (the words' own slots are worked out once, not for each row: the table is compared by computation)
 unfoldable pub slots : List String → List ℕ
-slots ws = let taken = slotsOf ws in each (λ h. rowIn taken h 0) 0 slotCount
+slots ws = let taken = slotsOf ws in each (λ h. rowIn taken h 0) 0 slot-count

@@ -5,7 +5,7 @@ use native.Mathlib.Omega.{arith}
 use mir.Syntax.{w64}
 use mir.Facts.{toZ-ofZ, toZ-pos}
 use Rattle.accept.specs.declared.Checked.{Checked}
-use Rattle.accept.specs.Refusal.{place}
+use Rattle.accept.specs.Refusal.{checkedPlace}
 use Rattle.checks.specs.Answer.{answer}
 use borrow.Author.Needs.{needs}
 use Rattle.checks.proofs.answer_of.Statement.{statement}
@@ -16,7 +16,7 @@ enum-known-o c = search needs
 
 cast-result : tie.Need-cast-result
 cast-result c =
-    let h = subst (λ (o : Checked). place o < 2 ^ 32) (c .before .o .given .1) (c .before .before .before .pre) in
+    let h = subst (λ (o : Checked). checkedPlace o < 2 ^ 32) (c .before .o .given .1) (c .before .before .before .pre) in
     record { sfits = omega arith }
 
 enum-known-o-2 : tie.Need-enum-known-o-2
@@ -24,12 +24,12 @@ enum-known-o-2 c = search needs
 
 refusal-answer-requires : tie.Need-refusal-answer-requires
 refusal-answer-requires c κs =
-    subst (λ (o : Checked). place o < 2 ^ 32) (c .before .o2 .given .1) (c .before .before .before .pre)
+    subst (λ (o : Checked). checkedPlace o < 2 ^ 32) (c .before .o2 .given .1) (c .before .before .before .pre)
 
 returns : tie.Need-returns
 unfolding answer
 returns c =
-    let h = subst (λ (o : Checked). place o < 2 ^ 32) (c .before .o .given .1) (c .before .before .before .pre) in
+    let h = subst (λ (o : Checked). checkedPlace o < 2 ^ 32) (c .before .o .given .1) (c .before .before .before .pre) in
     toZ-pos w64 (omega arith) ∙ sym (ap answer (c .before .o .given .1))
 
 returns-2 : tie.Need-returns-2

@@ -2,8 +2,8 @@
 use mathlib.Core.Path.{_∙_, ap}
 use Rattle.settings.specs.Settings.{readSettings}
 use Rattle.accept.specs.Check.{check}
-use Rattle.glsl.specs.Root.{rootClass, rootText}
-use Rattle.glsl.specs.Printed.{refusalNumber, refusalPlace, printOutcome}
+use Rattle.glsl.specs.Root.{rootClass, rootText, printOutcome}
+use Rattle.glsl.specs.Printed.{refusalNumber, refusalPlace}
 use Rattle.glsl.proofs.Outcome.{outcome-long, part-is, part-long}
 use borrow.Author.Needs.{needs}
 use Rattle.glsl.proofs.print.Statement.{statement}

@@ -4,7 +4,8 @@ use Prim.Native.Nat.{_<_, _^_}
 use native.Mathlib.Omega.{arith}
 use mir.Facts.{toZ-ofZ}
 use Rattle.glsl.specs.declared.Printed.{Printed}
-use Rattle.glsl.specs.Printed.{value, printedBits}
+use Rattle.glsl.specs.Printed.{printedBits}
+use Rattle.glsl.specs.Root.{value}
 use Rattle.glsl.proofs.Accepted.{small}
 use borrow.Author.Needs.{needs}
 use Rattle.glsl.proofs.print_bits.Statement.{statement}

@@ -5,7 +5,8 @@ use native.Mathlib.Omega.{arith}
 use mir.Syntax.{w64}
 use mir.Facts.{toZ-ofZ, toZ-pos}
 use Rattle.glsl.specs.declared.Printed.{Printed}
-use Rattle.glsl.specs.Printed.{value, printedBits}
+use Rattle.glsl.specs.Printed.{printedBits}
+use Rattle.glsl.specs.Root.{value}
 use borrow.Author.Needs.{needs}
 use Rattle.glsl.proofs.printed_bits.Statement.{statement}
 use Rattle.glsl.proofs.printed_bits.Tie as tie

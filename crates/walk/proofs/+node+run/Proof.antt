@@ -4,8 +4,8 @@ use Prim.Native.Nat.{ℕ, _+_, _-_, _*_, _≤_, _<_}
 use native.Mathlib.Omega.{arith}
 use native.Mathlib.Nat.{sub-zero}
 use borrow.Author.Needs.{needs}
-use Rattle.shapes.specs.Table.{firstClassRow, classOf}
-use Rattle.accept.specs.Check.{node as nodeAt, run as runAt}
+use Rattle.shapes.specs.Table.{first-class-row, classOf}
+use Rattle.accept.specs.Check.{node as nodeAt, nodes as runAt}
 use Rattle.walk.proofs.Walk.{partsLeft, run-step, run-done, part-step, part-end, parts-done, node-stop}
 use Rattle.walk.proofs.Open.{Known, deep-enough, within, opened}
 use borrow.Fn.Kinds.{In}
@@ -44,7 +44,7 @@ run-below t = and 4 run-kinds.ps (falls 4 run-kinds.ps _<_ μ-run t) run.Pre
 
 abbrev node-Inv-loop : node-lts.InvT-loop
 node-Inv-loop t words records names i c left at₀ r row j₀ at j =
-    (j ≤ 4) × (0 < left) × (row + 8 ≤ firstClassRow) × (nodeAt records names left (classOf c) i ≡ partsLeft t (nodeAt records names (left - 1)) (r .count) row j at)
+    (j ≤ 4) × (0 < left) × (row + 8 ≤ first-class-row) × (nodeAt records names left (classOf c) i ≡ partsLeft t (nodeAt records names (left - 1)) (r .count) row j at)
 
 abbrev node-μ-loop : node-lts.MeasureT-loop
 node-μ-loop t words records names i c left at₀ r row j₀ at j = 4 - j
