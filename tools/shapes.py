@@ -117,15 +117,15 @@ def literal(numbers, width):
 def written():
     heads, rows, classes = table()
     everything = heads + rows + classes
-    places = {"firstRow": len(heads), "firstClassRow": len(heads) + len(rows), "cells": len(everything)}
+    places = {"first-row": len(heads), "first-class-row": len(heads) + len(rows), "cells": len(everything)}
     for name, number in places.items():
         assert f"\n{name} = {number}\n" in read("Table.antt"), f"specs/Table.antt must say {name} = {number}"
     return (
         "// The table's bytes, and where its sections begin. Written by tools/shapes.py from the rows in specs/.\n"
         f"pub type Shapes = [u8; {len(everything)}];\n\n"
         "// Behind a head of 2 bytes for each kind: a row of 8 bytes for each kind and variant, and one for each class.\n"
-        f"pub const FIRST_ROW: usize = {places['firstRow']};\n\n"
-        f"pub const FIRST_CLASS: usize = {places['firstClassRow']};\n\n"
+        f"pub const FIRST_ROW: usize = {places['first-row']};\n\n"
+        f"pub const FIRST_CLASS: usize = {places['first-class-row']};\n\n"
         f"pub const TABLE: Shapes = *b\"\\\n{literal(everything, 32)}\";\n"
     )
 

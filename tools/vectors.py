@@ -65,7 +65,7 @@ def module(first, vectors):
     lines = [
         "-- Texts of the Rust module. Made by tools/vectors.py. Assumes nothing.",
         "use mathlib.Core.Path.{refl}",
-        "use Rattle.text.proofs.Case.{defined}",
+        "use Rattle.text.specs.Case.{defined}",
         "use Rattle.text.proofs.Computing.{computing}",
         "",
     ]

@@ -8,7 +8,7 @@ use lib.Dec.{eqb}
 use Rattle.records.specs.declared.Record.{Record}
 use Rattle.records.specs.Record.{textOf, bit0, bit1, bit2}
 use Rattle.text.specs.Tree.{ArrayedIdentifier, TypeQualifierSpec, FunctionParameterDeclaration, FunctionPrototype, Initializer, Initializers, SingleDeclaration, SingleDeclarationNoType, InitDeclaratorList, Block, Declaration}
-use Rattle.text.specs.Text.{show-function-parameter-declaration, show-parameters, show-function-prototype, show-initializer, show-initializers, show-initialized, show-single-declaration, show-single-declaration-no-type, show-tail, show-init-declarator-list, show-block-name, show-block, show-declaration}
+use Rattle.text.specs.Text.{show-function-parameter-declaration, show-parameters, show-function-prototype, show-initializer, show-initializers, show-initialized, show-single-declaration, show-single-declaration-no-type, show-tail, show-init-declarator-list, show-block, show-declaration, show-arrayed-identifier, optional}
 use Rattle.text.specs.Reading.{prototypeOf, parameterOf, declaratorsOf, singleOf, declaratorOf, initializerOf, blockOf, declarationOf}
 use Rattle.formed.specs.Formed.{Each, Formed-parameter, Formed-prototype, Formed-initializer, Formed-some-initializers, Formed-initializers, Formed-single, Formed-declarator, Formed-declarators, Formed-block, Formed-spec, Formed-precision, Formed-declaration}
 use Rattle.bounded.proofs.Weight.{weighs}
@@ -63,8 +63,8 @@ module _ {collapse : Bool} where
   initialized = maybe initializer show-initialized (omega arith) (λ x. omega arith)
 
   unfoldable block-name : Bool → Part collapse (Option ArrayedIdentifier)
-  unfolding show-block-name weighs
-  block-name = maybe identifier show-block-name (omega arith) (λ x. omega arith)
+  unfolding optional weighs
+  block-name = maybe identifier (optional show-arrayed-identifier) (omega arith) (λ x. omega arith)
 
 module _ (collapse : Bool) (ns : List ℕ) (r : Record) where
   pub prototypes-fit : Light collapse Formed-prototype show-function-prototype 0 (prototypeOf ns r)

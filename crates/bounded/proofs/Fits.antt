@@ -9,7 +9,7 @@ use lib.Seq.{drop-drop}
 use Rattle.words.specs.Symbol.{Symbol}
 use Rattle.text.specs.Command.{Command, symbol, exit-block, exit-collapsed-compound-statement}
 use Rattle.text.specs.Reading.{Read, Item, first}
-use Rattle.text.specs.Text.{bare-if, parenthesized, separator, compound, space-between, show-expr, show-type-specifier, show-type-specifier-non-array, show-array-spec, show-dimension, show-struct-field, show-arrayed-identifier, show-type-qualifier, show-type-qualifier-spec, show-layout-qualifier-spec, show-fully-specified-type, show-function-prototype, show-function-parameter-declaration, show-init-declarator-list, show-single-declaration, show-single-declaration-no-type, show-initializer, show-block, show-declaration, show-statements, show-statement, show-condition, show-for-init-statement, show-external-declaration, show-translation-unit}
+use Rattle.text.specs.Text.{bare-if, parenthesized, separator, braced-or-collapsed, space-between, show-expr, show-type-specifier, show-type-specifier-non-array, show-array-spec, show-dimension, show-struct-field, show-arrayed-identifier, show-type-qualifier, show-type-qualifier-spec, show-layout-qualifier-spec, show-fully-specified-type, show-function-prototype, show-function-parameter-declaration, show-init-declarator-list, show-single-declaration, show-single-declaration-no-type, show-initializer, show-block, show-declaration, show-statements, show-statement, show-condition, show-for-init-statement, show-external-declaration, show-translation-unit}
 use Rattle.formed.specs.Formed.{Formed-expr, Formed-type, Formed-base, Formed-dimensions, Formed-dimension, Formed-field, Formed-identifier, Formed-qualifier, Formed-spec, Formed-id, Formed-full-type, Formed-prototype, Formed-parameter, Formed-declarators, Formed-single, Formed-declarator, Formed-initializer, Formed-block, Formed-declaration, Formed-statements, Formed-statement, Formed-condition, Formed-for-init, Formed-external, Formed-unit}
 use Rattle.bounded.proofs.Weight.{level-weight, record-weight, line-weight, weighs, weighs-append}
 
@@ -100,7 +100,7 @@ abbrev block-weight : Bool → ℕ
 block-weight true = level-weight
 block-weight false = level-weight + line-weight + 7
 
-pub weighs-compound : (b : Bool) (cs : List Command) → weighs (compound b cs) ≡ min (level-weight + line-weight + 7) (block-weight b) + weighs cs
+pub weighs-compound : (b : Bool) (cs : List Command) → weighs (braced-or-collapsed b cs) ≡ min (level-weight + line-weight + 7) (block-weight b) + weighs cs
 unfolding weighs
 weighs-compound true cs = omega (arith, weighs-append cs exit-collapsed-compound-statement)
 weighs-compound false cs = omega (arith, weighs-append cs exit-block)

@@ -9,7 +9,7 @@ use lib.Dec.{leb}
 use borrow.Author.Tests.{leb-true}
 use Rattle.settings.specs.declared.Settings.{Settings}
 use Rattle.settings.specs.declared.SettingsRead.the-variants as Answer
-use Rattle.settings.specs.Settings.{style, widest-indent, limits, inRange, settingsOf, readSettings}
+use Rattle.settings.specs.Settings.{last-style, widest-indent, limits, inRange, settingsOf, readSettings}
 use Rattle.settings.proofs.Read.{read-is}
 
 narrow : (bs : List ℕ) → inRange bs limits ≡ true → settingsOf bs .count ≤ widest-indent
@@ -18,7 +18,7 @@ narrow [] e = omega arith
 narrow (b ∷ []) e = omega arith
 narrow (b ∷ c ∷ bs) e =
     let rest = inRange bs (drop 2 limits) in
-    leb-true c widest-indent (and-eq-true-iff (leb c widest-indent) rest .0 (and-eq-true-iff (leb b style) (leb c widest-indent && rest) .0 e .1) .0)
+    leb-true c widest-indent (and-eq-true-iff (leb c widest-indent) rest .0 (and-eq-true-iff (leb b last-style) (leb c widest-indent && rest) .0 e .1) .0)
 
 pub narrow-read : (bs : List ℕ) (s : Settings) → readSettings bs ≡ Answer.Read s → s .count ≤ widest-indent
 narrow-read bs s e = let r = read-is bs s e in subst (λ (t : Settings). t .count ≤ widest-indent) (r .1) (narrow bs (r .0))

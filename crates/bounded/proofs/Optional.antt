@@ -7,7 +7,7 @@ use native.Mathlib.Omega.{arith}
 use Rattle.words.specs.Form.{longest-name}
 use Rattle.text.specs.Command.{Command}
 use Rattle.text.specs.Tree.{Identifier, ArraySpecifier, Qualification}
-use Rattle.text.specs.Text.{show-name, show-declared, show-array-spec, show-qualification}
+use Rattle.text.specs.Text.{show-declared, show-array-spec, show-qualification, show-identifier, optional}
 use Rattle.text.specs.Reading as Reading
 use Rattle.formed.specs.Formed.{Name, IfThere, Formed-dimensions, Formed-qualification}
 use Rattle.bounded.proofs.Weight.{weighs}
@@ -16,8 +16,8 @@ use Rattle.bounded.proofs.Fits.{sums}
 use Rattle.bounded.proofs.Plan.{Light, Part, part, parts, reading, Holds, array, qualifier}
 use Rattle.bounded.proofs.Plan.Plan.{give, _and_}
 
-pub weighs-name : (s : Option Identifier) → IfThere Name s → weighs (show-name s) ≤ longest-name
-unfolding weighs
+pub weighs-name : (s : Option Identifier) → IfThere Name s → weighs (optional show-identifier s) ≤ longest-name
+unfolding optional weighs
 weighs-name none h = omega arith
 weighs-name (some s) h = omega (arith, name-short)
 

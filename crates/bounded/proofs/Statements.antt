@@ -10,7 +10,7 @@ use Rattle.records.specs.declared.Record.{Record}
 use Rattle.records.specs.Record.{textOf, bit0, bit1}
 use Rattle.text.specs.Command.{Command}
 use Rattle.text.specs.Tree.{Expr, Condition, ForInitStatement, JumpStatement, Statement, Statements, ExternalDeclaration}
-use Rattle.text.specs.Text.{show-expr, show-optional-expr, show-optional-condition, show-condition, show-for-init-statement, show-jump-statement, show-statement, show-statements, show-function-definition, show-external-declaration, show-translation-unit}
+use Rattle.text.specs.Text.{show-expr, show-condition, show-for-init-statement, show-jump-statement, show-statement, show-statements, show-function-definition, show-external-declaration, show-translation-unit, optional}
 use Rattle.text.specs.Reading.{compoundOf, statementOf, conditionOf, forInitOf, externalOf, unitOf}
 use Rattle.formed.specs.Formed.{Each, Formed-condition, Formed-for-init, Formed-jump, Formed-statement, Formed-statements, Formed-external, Formed-unit}
 use Rattle.bounded.proofs.Weight.{record-weight, weighs}
@@ -37,12 +37,12 @@ module _ {collapse : Bool} where
 
   -- what may be there
   unfoldable optional-expr : Bool → Part collapse (Option Expr)
-  unfolding show-optional-expr weighs
-  optional-expr = maybe expr show-optional-expr (omega arith) (λ x. omega arith)
+  unfolding optional weighs
+  optional-expr = maybe expr (optional show-expr) (omega arith) (λ x. omega arith)
 
   unfoldable optional-condition : Bool → Part collapse (Option Condition)
-  unfolding show-optional-condition weighs
-  optional-condition = maybe condition show-optional-condition (omega arith) (λ x. omega arith)
+  unfolding optional weighs
+  optional-condition = maybe condition (optional show-condition) (omega arith) (λ x. omega arith)
 
 -- the expression of a jump: its word and its end are the statement's
 abbrev returned : JumpStatement → List Command
@@ -108,7 +108,7 @@ module _ (collapse : Bool) (ns : List ℕ) (r : Record) where
       (parts (give Condition.no-condition) (λ h. absurd h))
 
   pub for-inits-fit : Light collapse Formed-for-init show-for-init-statement 0 (forInitOf ns r)
-  unfolding forInitOf Formed-for-init show-for-init-statement show-optional-expr weighs reading Holds
+  unfolding forInitOf Formed-for-init show-for-init-statement optional weighs reading Holds
   for-inits-fit =
       kind r 70 (variant (eqb (r .variant) 0) (row (give (ForInitStatement.Expression none)) (λ h. omega arith))
       (variant (eqb (r .variant) 1) (row (give (λ e. ForInitStatement.Expression (some e)) and expr) (λ x a h. simp sums (omega (arith, a .weight h))))

@@ -1,20 +1,21 @@
 -- The weight of commands: no less than what they write, whatever the settings and the state, up to a level. Entering a level weighs too, so that a
 -- weight bounds the levels as well. Assumes nothing.
-use mathlib.Core.Path.{_≡_, _∙_, subst}
+use mathlib.Core.Path.{_≡_, refl, _∙_, subst}
 use mathlib.Core.Bool.{Bool, true, false, _&&_, cond}
 use mathlib.Core.List.{List, [], _∷_, _++_}
+use mathlib.Core.Option.{some}
 use Prim.Native.Nat.{ℕ, _+_, _*_, _≤_}
 use Prim.Native.Char.{code}
-use Prim.Native.String.{String}
 use native.Mathlib.Nat.{le-refl, mul-le-mul}
 use native.Mathlib.Omega.{arith}
-use lib.ListN.{length, getD, length-append, length-replicate, List·getD-append, List·getD-eq-default}
+use lib.Dec.{leb}
+use lib.ListN.{length, length-append, length-replicate, List·getD-eq-default}
+use borrow.Author.Tests.{leb-true, lt-ltb}
 use Rattle.words.specs.Bytes.{bytes}
-use Rattle.words.specs.Word.{Word, StorageQualifier, PrecisionQualifier, InterpolationQualifier, wordText, otherWords}
-use Rattle.words.specs.Symbol.{Symbol, symbolText}
-use Rattle.words.specs.Keyword.{typeKeywords, fixedWords}
-use Rattle.word_table.specs.Table.{operators, texts, textAt, widest}
-use Rattle.word_table.proofs.Places.{text-fits}
+use Rattle.words.specs.Word.{wordText, qualifierWords, jumpWords, boolWords, loneWords}
+use Rattle.words.specs.Symbol.{symbolText, unaryOperators, binaryOperators, assignmentOperators}
+use Rattle.words.specs.Keyword.{typeKeywords}
+use Rattle.word_table.specs.Table.{widest}
 use Rattle.records.proofs.Laws.{split}
 use Rattle.decimal.specs.Decimal.{decimal}
 use Rattle.settings.specs.declared.Settings.{Settings}
@@ -31,6 +32,7 @@ use Rattle.text.specs.Asked.{flag, gap}
 use Rattle.text.specs.Command.{Command}
 use Rattle.text.specs.Command.Command.{token, space, space-if, space-at-body-if, newline-if, whitespace, write-indent, write-line, flush-line, flush-space, consume-newline, indent, dedent, enter-function-definition-statement, consume-function-definition-statement}
 use Rattle.text.specs.Pen.{indentation, indentOf, lineOf, whitespaceText, written, after, text}
+use Rattle.lexis.proofs.Fixed.{types-from, others, fixed-tokens, find, every, found-passes, word-found, symbol-found, type-found}
 use Rattle.pen.specs.Free.{climb, climbs}
 use Rattle.pen.proofs.Written.{after-level}
 
@@ -88,113 +90,24 @@ weighs-append (c ∷ cs) ds = omega (arith, weighs-append cs ds)
 
 -- a token is no longer than it weighs
 
-storage-short : (q : StorageQualifier) → length (bytes (wordText (Word.storage q))) ≤ widest
-unfolding wordText
-storage-short StorageQualifier.const = omega arith
-storage-short StorageQualifier.inout = omega arith
-storage-short StorageQualifier.«in» = omega arith
-storage-short StorageQualifier.out = omega arith
-storage-short StorageQualifier.centroid = omega arith
-storage-short StorageQualifier.patch = omega arith
-storage-short StorageQualifier.sample = omega arith
-storage-short StorageQualifier.uniform = omega arith
-storage-short StorageQualifier.buffer = omega arith
-storage-short StorageQualifier.shared = omega arith
-storage-short StorageQualifier.coherent = omega arith
-storage-short StorageQualifier.volatile = omega arith
-storage-short StorageQualifier.restrict = omega arith
-storage-short StorageQualifier.readonly = omega arith
-storage-short StorageQualifier.writeonly = omega arith
-storage-short StorageQualifier.attribute = omega arith
-storage-short StorageQualifier.varying = omega arith
+-- by one test of the words, symbols and type keywords that there are (lexis)
+abbrev short : Token → Bool
+short t = leb (length (spell t)) (weigh-token t)
 
-word-short : (w : Word) → length (bytes (wordText w)) ≤ widest
-unfolding wordText
-word-short (Word.storage q) = storage-short q
-word-short (Word.precision-qualifier PrecisionQualifier.highp) = omega arith
-word-short (Word.precision-qualifier PrecisionQualifier.mediump) = omega arith
-word-short (Word.precision-qualifier PrecisionQualifier.lowp) = omega arith
-word-short (Word.interpolation InterpolationQualifier.smooth) = omega arith
-word-short (Word.interpolation InterpolationQualifier.flat) = omega arith
-word-short (Word.interpolation InterpolationQualifier.noperspective) = omega arith
-word-short Word.subroutine = omega arith
-word-short Word.layout = omega arith
-word-short Word.invariant = omega arith
-word-short Word.precise = omega arith
-word-short Word.continue = omega arith
-word-short Word.break = omega arith
-word-short Word.discard = omega arith
-word-short Word.return = omega arith
-word-short Word.false = omega arith
-word-short Word.true = omega arith
-word-short Word.precision = omega arith
-word-short Word.struct = omega arith
-word-short Word.if = omega arith
-word-short Word.else = omega arith
-word-short Word.switch = omega arith
-word-short Word.case = omega arith
-word-short Word.default = omega arith
-word-short Word.while = omega arith
-word-short Word.«do» = omega arith
-word-short Word.for = omega arith
+all-short : every short fixed-tokens ≡ true
+unfolding every fixed-tokens others types-from typeKeywords qualifierWords jumpWords boolWords loneWords unaryOperators binaryOperators assignmentOperators spell wordText symbolText
+all-short = refl
 
-symbol-short : (y : Symbol) → length (bytes (symbolText y)) ≤ 3
-unfolding symbolText
-symbol-short Symbol.left-paren = omega arith
-symbol-short Symbol.right-paren = omega arith
-symbol-short Symbol.left-bracket = omega arith
-symbol-short Symbol.right-bracket = omega arith
-symbol-short Symbol.left-brace = omega arith
-symbol-short Symbol.right-brace = omega arith
-symbol-short Symbol.dot = omega arith
-symbol-short Symbol.comma = omega arith
-symbol-short Symbol.colon = omega arith
-symbol-short Symbol.semicolon = omega arith
-symbol-short Symbol.question = omega arith
-symbol-short Symbol.inc-op = omega arith
-symbol-short Symbol.dec-op = omega arith
-symbol-short Symbol.plus = omega arith
-symbol-short Symbol.dash = omega arith
-symbol-short Symbol.bang = omega arith
-symbol-short Symbol.tilde = omega arith
-symbol-short Symbol.or-op = omega arith
-symbol-short Symbol.xor-op = omega arith
-symbol-short Symbol.and-op = omega arith
-symbol-short Symbol.vertical-bar = omega arith
-symbol-short Symbol.caret = omega arith
-symbol-short Symbol.ampersand = omega arith
-symbol-short Symbol.eq-op = omega arith
-symbol-short Symbol.ne-op = omega arith
-symbol-short Symbol.left-angle = omega arith
-symbol-short Symbol.right-angle = omega arith
-symbol-short Symbol.le-op = omega arith
-symbol-short Symbol.ge-op = omega arith
-symbol-short Symbol.left-op = omega arith
-symbol-short Symbol.right-op = omega arith
-symbol-short Symbol.star = omega arith
-symbol-short Symbol.slash = omega arith
-symbol-short Symbol.percent = omega arith
-symbol-short Symbol.equal = omega arith
-symbol-short Symbol.mul-assign = omega arith
-symbol-short Symbol.div-assign = omega arith
-symbol-short Symbol.mod-assign = omega arith
-symbol-short Symbol.add-assign = omega arith
-symbol-short Symbol.sub-assign = omega arith
-symbol-short Symbol.left-assign = omega arith
-symbol-short Symbol.right-assign = omega arith
-symbol-short Symbol.and-assign = omega arith
-symbol-short Symbol.xor-assign = omega arith
-symbol-short Symbol.or-assign = omega arith
+fixed-short : (t : Token) → find fixed-tokens (spell t) ≡ some t → length (spell t) ≤ weigh-token t
+fixed-short t e = leb-true (length (spell t)) (weigh-token t) (found-passes short fixed-tokens (spell t) t all-short e)
 
--- a keyword is a text of the word table
-keyword-short : (v : ℕ) → length (bytes (getD typeKeywords v "")) ≤ widest
-unfolding textAt texts fixedWords
-keyword-short v =
-    split v (length typeKeywords)
-    (λ h.
-    let e = List·getD-append (typeKeywords ++ otherWords) operators "" v (omega (arith, length-append typeKeywords otherWords)) in
-    subst (λ (w : String). length (bytes w) ≤ widest) (e ∙ List·getD-append typeKeywords otherWords "" v h) (text-fits v))
-    (λ h. rw (List·getD-eq-default typeKeywords "" h) (omega arith))
+-- a number that stands for no keyword is spelled as nothing
+no-keyword : (v : ℕ) → length typeKeywords ≤ v → length (spell (type v)) ≤ widest
+unfolding spell
+no-keyword v h = rw (List·getD-eq-default typeKeywords "" h) (omega arith)
+
+keyword-short : (v : ℕ) → length (spell (type v)) ≤ widest
+keyword-short v = split v (length typeKeywords) (λ h. fixed-short (type v) (type-found v (lt-ltb v (length typeKeywords) h))) (no-keyword v)
 
 pointed-short : (t : List ℕ) → length (pointed t) ≤ length t + 1
 unfolding pointed
@@ -212,8 +125,8 @@ spell-weight (int n) = le-refl (length (decimal n))
 spell-weight (uint n) = omega (arith, length-append (decimal n) (bytes "u"))
 spell-weight (float t) = pointed-short t
 spell-weight (double t) = omega (arith, length-append (pointed t) (bytes "lf"), pointed-short t)
-spell-weight (word w) = word-short w
-spell-weight (symbol y) = symbol-short y
+spell-weight (word w) = fixed-short (word w) (word-found w)
+spell-weight (symbol y) = fixed-short (symbol y) (symbol-found y)
 
 -- a command writes no more than it weighs
 

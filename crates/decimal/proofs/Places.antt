@@ -5,7 +5,7 @@ use Prim.Native.Nat.{ℕ, suc, _≤_, _<_, _+_, _-_, _/_, _%_}
 use native.Mathlib.Omega.{arith}
 use lib.ListN.{length, set}
 use lib.Seq.{sets, set-comm}
-use Rattle.decimal.specs.Decimal.{digit, decimal}
+use Rattle.decimal.specs.Decimal.{digitByte, decimal}
 use Rattle.decimal.proofs.Laws.{decimal-small, decimal-big, length-small, length-big, length-positive}
 
 -- a run of stores may begin with the last of them
@@ -22,7 +22,7 @@ unfoldable pub ending : List ℕ → (last n : ℕ) → List ℕ
 ending room last n = sets room (last + 1 - length (decimal n)) (decimal n)
 
 -- from 10 on: the last digit, and the others in front of it
-pub ending-big : (room : List ℕ) (last n : ℕ) → length (decimal n) ≤ last + 1 → 10 ≤ n → ending room last n ≡ ending (set room last (digit (n % 10))) (last - 1) (n / 10)
+pub ending-big : (room : List ℕ) (last n : ℕ) → length (decimal n) ≤ last + 1 → 10 ≤ n → ending room last n ≡ ending (set room last (digitByte (n % 10))) (last - 1) (n / 10)
 unfolding ending
 ending-big room last n h b =
     let e = length-big n b in
@@ -31,12 +31,12 @@ ending-big room last n h b =
     let at = last - length l in
     ap (λ (k : ℕ). sets room k (decimal n)) (omega arith)
     ∙ ap (sets room at) (decimal-big n b)
-    ∙ sets-last room at l (digit (n % 10))
-    ∙ ap (λ (k : ℕ). sets (set room k (digit (n % 10))) at l) (omega arith)
-    ∙ ap (λ (k : ℕ). sets (set room last (digit (n % 10))) k l) (omega arith)
+    ∙ sets-last room at l (digitByte (n % 10))
+    ∙ ap (λ (k : ℕ). sets (set room k (digitByte (n % 10))) at l) (omega arith)
+    ∙ ap (λ (k : ℕ). sets (set room last (digitByte (n % 10))) k l) (omega arith)
 
 -- below 10: the one digit
-pub ending-small : (room : List ℕ) (last n : ℕ) → n < 10 → ending room last n ≡ set room last (digit n)
+pub ending-small : (room : List ℕ) (last n : ℕ) → n < 10 → ending room last n ≡ set room last (digitByte n)
 unfolding ending
 ending-small room last n s =
     let e = length-small n s in

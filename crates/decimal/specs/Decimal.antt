@@ -1,4 +1,4 @@
--- The decimal text of a number, and 32 bits as a signed number. Assumes nothing.
+-- The decimal text of a number, and 32 bits as a signed number (01, "Tree records", kinds 2 and 3; 000 show_expr). Assumes nothing.
 use mathlib.Core.Bool.{Bool, true, false, cond}
 use mathlib.Core.List.{List, [], _∷_, _++_}
 use Prim.Native.Nat.{ℕ, zero, suc, _+_, _-_, _*_, _/_, _%_, _^_}
@@ -7,23 +7,23 @@ use lib.IntN.{ℤ, pos, negsuc}
 use lib.Dec.{ltb}
 
 -- the character of a digit
-abbrev pub digit : ℕ → ℕ
-digit d = code "0" + d
+abbrev pub digitByte : ℕ → ℕ
+digitByte d = code "0" + d
 
 -- the digits of n, highest first, if there are at most w + 1 of them (by `elim`, which computes only the case that holds: then texts of 32 bits can be
 -- computed)
-unfoldable pub digits : (w : ℕ) → ℕ → List ℕ
-digits zero n = digit n ∷ []
-digits (suc w) n = elim (ltb n 10) [ true ↦ digit n ∷ [] | false ↦ digits w (n / 10) ++ (digit (n % 10) ∷ []) ]
+unfoldable pub digitsOf : (w : ℕ) → ℕ → List ℕ
+digitsOf zero n = digitByte n ∷ []
+digitsOf (suc w) n = elim (ltb n 10) [ true ↦ digitByte n ∷ [] | false ↦ digitsOf w (n / 10) ++ (digitByte (n % 10) ∷ []) ]
 
 -- a number has no more digits than its value and one
 unfoldable pub decimal : ℕ → List ℕ
-decimal n = digits n n
+decimal n = digitsOf n n
 
 -- the value of digits that stand behind a number m
-abbrev pub value : (m : ℕ) → List ℕ → ℕ
-value m [] = m
-value m (d ∷ ds) = value (10 * m + (d - code "0")) ds
+abbrev pub valueOf : (m : ℕ) → List ℕ → ℕ
+valueOf m [] = m
+valueOf m (d ∷ ds) = valueOf (10 * m + (d - code "0")) ds
 
 -- 01, kind 2: an IntConst is signed, its 32 bits are two's complement. Is it negative, and how far is it from 0?
 abbrev pub negative : ℕ → Bool

@@ -19,7 +19,7 @@ use Rattle.text.specs.Token.{Token, spell}
 use Rattle.text.specs.Asked.Flag.{spaces-around-binary-ops}
 use Rattle.text.specs.Command.{write-binary-token, write-binary-op}
 use Rattle.text.specs.Command.Command.{space-if}
-use Rattle.text.specs.Text.{unary-symbol, binary-symbol, assignment-symbol, bool-word}
+use Rattle.text.specs.Text.{unary-symbol, binary-symbol, assignment-symbol, bool-word, binary-op}
 use Rattle.text.specs.Reading.{unaryOp, binaryOp, assignmentOp, storageOf}
 use Rattle.pen.specs.declared.Pen.{Pen}
 use Rattle.pen.specs.Promise.{Ran}
@@ -65,7 +65,7 @@ module _ (v : ℕ) where
       ∙ ap (λ (y : Symbol). bytes (symbolText y)) (by-variant (λ k. unary-symbol (unaryOp k)) unaryOperators 5 refl (λ k. refl) v Symbol.bang)
 
   pub binary-text : textAt (100 + min v 18) ≡ spell (Token.symbol (binary-symbol (binaryOp v)))
-  unfolding spell binaryOp binaryOperators binary-symbol
+  unfolding spell binaryOp binaryOperators binary-op
   binary-text =
       binary-row (min v 18) (omega arith) Symbol.bang
       ∙ ap (λ (y : Symbol). bytes (symbolText y)) (by-variant (λ k. binary-symbol (binaryOp k)) binaryOperators 18 refl (λ k. refl) v Symbol.bang)

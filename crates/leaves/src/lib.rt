@@ -11,7 +11,7 @@ ghost use Rattle.records.specs.Record.{recordAt, part};
 ghost use Rattle.settings.specs.declared.Settings.{Settings};
 ghost use Rattle.text.specs.Token.{Token};
 ghost use Rattle.text.specs.Command.{write-binary-op};
-ghost use Rattle.text.specs.Text.{unary-symbol, binary-symbol, assignment-symbol, a-token, a-word, a-symbol, bool-word, separator, space-between, show-name};
+ghost use Rattle.text.specs.Text.{unary-symbol, binary-symbol, assignment-symbol, a-token, a-word, a-symbol, bool-word, separator, space-between, show-identifier, optional};
 ghost use Rattle.text.specs.Reading.{unaryOp, binaryOp, assignmentOp};
 ghost use Rattle.pen.specs.Promise.{Ran};
 ghost use Rattle.leaves.specs.Shown.{past};
@@ -154,7 +154,7 @@ pub fn space_between(pen: Pen, room: &mut [u8], first: bool) -> Pen
 
 // The name of a struct, if it has one.
 pub fn show_name(pen: Pen, room: &mut [u8], names: &[u8], named: bool, a: u32, b: u32) -> Pen
-    ensures { λ r. ⌜ ((s : Settings) → Ran s (show-name (cond named (some (part (now (names .entry)) a b)) none)) (now (room .entry)) pen (now (room .exit)) r) ⌝ }
+    ensures { λ r. ⌜ ((s : Settings) → Ran s (optional show-identifier (cond named (some (part (now (names .entry)) a b)) none)) (now (room .entry)) pen (now (room .exit)) r) ⌝ }
 {
     if named {
         return pen.write_name(room, names, a, b);

@@ -5,7 +5,7 @@ use Prim.Native.Nat.{ℕ}
 use lib.ListN.{take, set}
 use Rattle.settings.specs.declared.SettingsRead.the-variants as Answer
 use Rattle.settings.specs.Settings.{limits, inRange, settingsOf, readSettings, TIGHT, OPEN}
-use Rattle.settings.specs.Answer.{refusalNumber}
+use Rattle.settings.specs.Answer.{settingsNumber}
 
 -- TIGHT with byte k put to b
 abbrev tightBut : ℕ → ℕ → List ℕ
@@ -27,7 +27,7 @@ pub bad-refused : map readSettings bad ≡ map (λ (bs : List ℕ). Answer.Refus
 unfolding readSettings inRange limits
 bad-refused = refl
 
--- the paper's numbers of the bad ones
-pub bad-numbers : map (λ (bs : List ℕ). refusalNumber (readSettings bs)) bad ≡ 1 ∷ 1 ∷ 1 ∷ 1 ∷ 1 ∷ 1 ∷ []
+-- 01's numbers of the bad ones
+pub bad-numbers : map (λ (bs : List ℕ). settingsNumber (readSettings bs)) bad ≡ 1 ∷ 1 ∷ 1 ∷ 1 ∷ 1 ∷ 1 ∷ []
 unfolding readSettings inRange limits
 bad-numbers = refl

@@ -6,20 +6,20 @@ use Prim.Native.Nat.{ℕ}
 use Rattle.settings.specs.declared.Settings.{Settings}
 use Rattle.settings.specs.declared.SettingsRead.the-variants as Answer
 use Rattle.settings.specs.Settings.{limits, inRange, settingsOf, readSettings}
-use Rattle.settings.specs.Answer.{refusalNumber, refusalPlace}
+use Rattle.settings.specs.Answer.{settingsNumber, settingsPlace}
 
-number-by : (good : Bool) (s : Settings) → refusalNumber (cond good (Answer.Read s) Answer.Refused) ≡ cond good 0 1
+number-by : (good : Bool) (s : Settings) → settingsNumber (cond good (Answer.Read s) Answer.Refused) ≡ cond good 0 1
 number-by true s = refl
 number-by false s = refl
 
-place-by : (good : Bool) (s : Settings) → refusalPlace (cond good (Answer.Read s) Answer.Refused) ≡ 0
+place-by : (good : Bool) (s : Settings) → settingsPlace (cond good (Answer.Read s) Answer.Refused) ≡ 0
 place-by true s = refl
 place-by false s = refl
 
-pub number-of : (bs : List ℕ) → refusalNumber (readSettings bs) ≡ cond (inRange bs limits) 0 1
+pub number-of : (bs : List ℕ) → settingsNumber (readSettings bs) ≡ cond (inRange bs limits) 0 1
 unfolding readSettings
 number-of bs = number-by (inRange bs limits) (settingsOf bs)
 
-pub place-of : (bs : List ℕ) → refusalPlace (readSettings bs) ≡ 0
+pub place-of : (bs : List ℕ) → settingsPlace (readSettings bs) ≡ 0
 unfolding readSettings
 place-of bs = place-by (inRange bs limits) (settingsOf bs)

@@ -14,7 +14,8 @@ use Rattle.settings.specs.declared.Whitespace.{Whitespace}
 use Rattle.settings.specs.declared.Whitespace.the-variants as White
 use Rattle.settings.specs.declared.Settings.{Settings}
 use Rattle.settings.specs.declared.SettingsRead.the-variants as Answer
-use Rattle.settings.specs.Settings.{limits, inRange, styleOf, flagOf, whitespaceOf, settingsOf, readSettings, styleByte, flagByte, whitespaceByte, settingsBytes, TIGHT, OPEN}
+use Rattle.settings.specs.Settings.{limits, inRange, styleOf, flagOf, whitespaceOf, settingsOf, readSettings, TIGHT, OPEN}
+use Rattle.settings.specs.Bytes.{styleByte, flagByte, whitespaceByte, settingsBytes}
 use Rattle.settings.proofs.Range.{range-length}
 
 -- a byte that was read and written again, by its limit: 1 is a flag, 2 a Whitespace, any other a number

@@ -1,3 +1,4 @@
 pub mod Answer
 pub mod Settings
+pub mod Bytes
 pub mod State

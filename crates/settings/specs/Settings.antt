@@ -12,28 +12,28 @@ use Rattle.settings.specs.declared.Settings.{Settings}
 use Rattle.settings.specs.declared.SettingsRead.{SettingsRead}
 use Rattle.settings.specs.declared.SettingsRead.the-variants as Answer
 
--- a style, a count, flags and whitespaces, each by its highest value
-abbrev pub style : ℕ
-style = 2
+-- the highest value of a style, a count, a flag, a whitespace
+abbrev pub last-style : ℕ
+last-style = 2
 
 abbrev pub widest-indent : ℕ
 widest-indent = 16
 
-abbrev pub flag : ℕ
-flag = 1
+abbrev pub last-flag : ℕ
+last-flag = 1
 
-abbrev pub white : ℕ
-white = 2
+abbrev pub last-white : ℕ
+last-white = 2
 
 -- the highest value of each byte, in the order of FormattingSettings
 unfoldable pub limits : List ℕ
 limits =
-    style ∷ widest-indent
-    ∷ flag ∷ flag ∷ flag ∷ flag ∷ flag ∷ flag
-    ∷ white ∷ white ∷ white ∷ white
-    ∷ flag
-    ∷ white ∷ white
-    ∷ flag ∷ flag ∷ flag ∷ flag ∷ flag ∷ flag ∷ []
+    last-style ∷ widest-indent
+    ∷ last-flag ∷ last-flag ∷ last-flag ∷ last-flag ∷ last-flag ∷ last-flag
+    ∷ last-white ∷ last-white ∷ last-white ∷ last-white
+    ∷ last-flag
+    ∷ last-white ∷ last-white
+    ∷ last-flag ∷ last-flag ∷ last-flag ∷ last-flag ∷ last-flag ∷ last-flag ∷ []
 
 -- as many bytes as limits, each at most its limit
 unfoldable pub inRange : List ℕ → List ℕ → Bool
@@ -80,46 +80,6 @@ settingsOf bs = record {
 -- the answer to 21 bytes in range, and to any others (refusal 1)
 unfoldable pub readSettings : List ℕ → SettingsRead
 readSettings bs = cond (inRange bs limits) (Answer.Read (settingsOf bs)) Answer.Refused
-
--- the bytes of an IndentStyle, a flag, a Whitespace, and of settings
-abbrev pub styleByte : IndentStyle → ℕ
-styleByte Indent.None = 0
-styleByte Indent.Tabs = 1
-styleByte Indent.Spaces = 2
-
-abbrev pub flagByte : Bool → ℕ
-flagByte false = 0
-flagByte true = 1
-
-abbrev pub whitespaceByte : Whitespace → ℕ
-whitespaceByte White.None = 0
-whitespaceByte White.Space = 1
-whitespaceByte White.Newline = 2
-
-unfoldable pub settingsBytes : Settings → List ℕ
-settingsBytes s =
-    styleByte (s .«indent_style»)
-    ∷ s .count
-    ∷ flagByte (s .«space_before_open_block»)
-    ∷ flagByte (s .«newline_after_open_block»)
-    ∷ flagByte (s .«newline_before_close_block»)
-    ∷ flagByte (s .«newline_after_close_block»)
-    ∷ flagByte (s .«newline_after_collapsed_statement»)
-    ∷ flagByte (s .«newline_before_collapsed_statement»)
-    ∷ whitespaceByte (s .«struct_field_separator»)
-    ∷ whitespaceByte (s .«struct_declaration_terminator»)
-    ∷ whitespaceByte (s .«declaration_terminator»)
-    ∷ whitespaceByte (s .«case_label_terminator»)
-    ∷ flagByte (s .«spaces_around_binary_ops»)
-    ∷ whitespaceByte (s .«statement_terminator»)
-    ∷ whitespaceByte (s .«function_definition_terminator»)
-    ∷ flagByte (s .«collapse_single_item_compound_statements»)
-    ∷ flagByte (s .«space_before_else»)
-    ∷ flagByte (s .«space_after_list_separator»)
-    ∷ flagByte (s .«space_after_for_statement_separator»)
-    ∷ flagByte (s .«spaces_surrounding_initializer_list_expressions»)
-    ∷ flagByte (s .«spaces_surrounding_statement_parentheses»)
-    ∷ []
 
 -- 01: TIGHT and OPEN, byte for byte
 abbrev pub TIGHT : List ℕ

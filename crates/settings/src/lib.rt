@@ -42,7 +42,7 @@ pub struct Settings {
     pub spaces_surrounding_statement_parentheses: bool,
 }
 
-// The answer to bytes that are asked to be a settings record. specs/Answer.antt gives the paper's number of each case.
+// The answer to bytes that are asked to be a settings record. specs/Answer.antt gives 01's number of each case.
 pub enum SettingsRead {
     Read(Settings),
     Refused,

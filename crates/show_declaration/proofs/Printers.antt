@@ -17,7 +17,7 @@ use Rattle.settings.specs.declared.Settings.{Settings}
 use Rattle.text.specs.Token.{Token, spell}
 use Rattle.text.specs.Command.{Command, write-binary-token, write-declaration-terminator, enter-block, exit-block, enter-initializer-list, end-initializer-list}
 use Rattle.text.specs.Tree.{FullySpecifiedType, FunctionPrototype, FunctionParameterDeclaration, InitDeclaratorList, SingleDeclaration, SingleDeclarationNoType, Initializer, Initializers, Block, Declaration, StructFieldSpecifiers}
-use Rattle.text.specs.Text.{a-symbol, a-space, show-identifier, show-type-specifier, show-struct-fields, show-array-spec, show-arrayed-identifier, show-qualification, show-type-qualifier, show-type-qualifier-spec, show-expr, show-fully-specified-type, show-function-parameter-declaration, show-parameters, show-function-prototype, show-initializer, show-initializers, show-declared, show-initialized, show-single-declaration, show-single-declaration-no-type, show-tail, show-init-declarator-list, show-block-name, show-block, show-declaration}
+use Rattle.text.specs.Text.{a-symbol, a-space, show-identifier, show-type-specifier, show-struct-fields, show-array-spec, show-arrayed-identifier, show-qualification, show-type-qualifier, show-type-qualifier-spec, show-expr, show-fully-specified-type, show-function-parameter-declaration, show-parameters, show-function-prototype, show-initializer, show-initializers, show-declared, show-initialized, show-single-declaration, show-single-declaration-no-type, show-tail, show-init-declarator-list, show-block, show-declaration, optional}
 use Rattle.text.specs.Reading.{Item, Reader, give, counted, _and_, several, maybe, from, itemOf, fullTypeOf, prototypeOf, parameterOf, declaratorsOf, singleOf, declaratorOf, initializerOf, blockOf, declarationOf, expr, type, field, identifier, qualifier, spec, full-type, prototype, parameter, declarators, single, declarator, initializer, block, declaration, array-if, qualification-if}
 use Rattle.pen.specs.declared.Pen.{Pen}
 use Rattle.pen.specs.Promise.{Wrote, Ran}
@@ -113,12 +113,12 @@ module _ (rs ns : List ℕ) {s : Settings} where
     pub block-of : r .kind ≡ 46 → {room₂ room₃ room₄ room₅ room₆ room₇ : List ℕ} {p₂ p₃ p₄ p₅ p₆ p₇ : Pen} → p ≡ past rs p₀ → Shows (λ q. show-type-qualifier q true) qualifier s rs ns room₀ p room₂ p₂
         → Wrote (bytes " ") room₂ p₂ room₃ p₃ → Wrote (part ns (r .a) (r .b)) room₃ p₃ room₄ p₄ → Ran s enter-block room₄ p₄ room₅ p₅
         → Shows show-struct-fields (several (r .count) field StructFieldSpecifiers.no-fields StructFieldSpecifiers.fields) s rs ns room₅ p₅ room₆ p₆ → Ran s exit-block room₆ p₆ room₇ p₇
-        → Shows show-block-name (maybe (eqb (r .variant) 1) identifier) s rs ns room₇ p₇ room₁ p₁ → Shows show-block block s rs ns room₀ p₀ room₁ p₁
+        → Shows (optional show-arrayed-identifier) (maybe (eqb (r .variant) 1) identifier) s rs ns room₇ p₇ room₁ p₁ → Shows show-block block s rs ns room₀ p₀ room₁ p₁
     unfolding show-block spell itemOf blockOf
     block-of k f a w n o b c d =
         of-parts rs ns e (λ (x : Item). x .block) show-block 46 (omega arith) k f
         (begin (Block.block (textOf ns r)) shows piece (λ q. show-type-qualifier q true) qualifier a writes space w writes put (Token.name (textOf ns r)) refl n writes wrote o
-        shows piece show-struct-fields (several (r .count) field StructFieldSpecifiers.no-fields StructFieldSpecifiers.fields) b writes wrote c shows piece show-block-name (maybe (eqb (r .variant) 1) identifier) d) refl refl
+        shows piece show-struct-fields (several (r .count) field StructFieldSpecifiers.no-fields StructFieldSpecifiers.fields) b writes wrote c shows piece (optional show-arrayed-identifier) (maybe (eqb (r .variant) 1) identifier) d) refl refl
 
     -- a declaration that has one part only
     pub declaration-of : {A : Type 0} (f : A → Declaration) (q : Reader A) (show : A → List Command) → r .kind ≡ 47 → {room₂ : List ℕ} {p₂ : Pen} → p ≡ past rs p₀

@@ -6,7 +6,7 @@ ghost use mathlib.Core.Option.{none, some};
 ghost use Rattle.word_table.specs.Table as Table;
 ghost use Rattle.records.specs.Record.{part};
 ghost use Rattle.settings.specs.declared.Settings.{Settings};
-ghost use Rattle.text.specs.Text.{show-fully-specified-type, show-declaration, show-function-prototype, show-function-parameter-declaration, show-init-declarator-list, show-single-declaration, show-declared, show-initialized, show-single-declaration-no-type, show-block, show-block-name};
+ghost use Rattle.text.specs.Text.{show-fully-specified-type, show-declaration, show-function-prototype, show-function-parameter-declaration, show-init-declarator-list, show-single-declaration, show-declared, show-initialized, show-single-declaration-no-type, show-block, show-arrayed-identifier, optional};
 ghost use Rattle.text.specs.Reading as Reading;
 ghost use Rattle.text.specs.Reading.{maybe};
 ghost use Rattle.pen.specs.Promise.{Ran};
@@ -299,7 +299,7 @@ fn show_block_name(
     on: bool,
 ) -> Pen
     requires { ⌜ now t ≡ Table.table ⌝ }
-    ensures { λ r. ⌜ Shows show-block-name (maybe on Reading.identifier) s (now (records .entry)) (now (names .entry)) (now (room .entry)) pen (now (room .exit)) r ⌝ }
+    ensures { λ r. ⌜ Shows (optional show-arrayed-identifier) (maybe on Reading.identifier) s (now (records .entry)) (now (names .entry)) (now (room .entry)) pen (now (room .exit)) r ⌝ }
 {
     if on {
         return show::ident(s, t, records, names, room, pen);

@@ -12,7 +12,7 @@ use Rattle.records.specs.declared.Record.{Record}
 use Rattle.records.proofs.Laws.{split, same-answer}
 use Rattle.text.specs.Command.{Command}
 use Rattle.text.specs.Tree.{BinaryOp, Expr}
-use Rattle.text.specs.Text.{precedence, binary-precedence, unary-precedence, a-symbol, bare-if, show-expr, is-add, is-minus, doubled, doubles, unary-op}
+use Rattle.text.specs.Text.{precedence, binary-precedence, unary-precedence, a-symbol, bare-if, show-expr, is-add, is-minus, doubled, doubles, unary-op, binary-op}
 use Rattle.text.specs.Reading.{Item, Read, Reader, unaryOp, exprOf, expr}
 use Rattle.text.proofs.ByKind.{either}
 use Rattle.leaves.specs.Operand.{mostUnder}
@@ -22,7 +22,7 @@ abbrev pub operand : ℕ → Expr → List Command
 operand most e = bare-if (leb (precedence e) most) (show-expr e)
 
 weakest-op : (op : BinaryOp) → binary-precedence op ≤ 17
-unfolding binary-precedence
+unfolding binary-op
 weakest-op BinaryOp.Or = omega arith
 weakest-op BinaryOp.Xor = omega arith
 weakest-op BinaryOp.And = omega arith

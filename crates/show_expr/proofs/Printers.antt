@@ -19,13 +19,13 @@ use Rattle.text.specs.Token.{Token, spell}
 use Rattle.text.specs.Command.{Command, write-binary-op, write-binary-token, write-list-separator, write-struct-field-separator, enter-block, exit-block}
 use Rattle.text.specs.Command.Command.{flush-line}
 use Rattle.text.specs.Tree.{Expr, Exprs, FunIdentifier, TypeSpecifier, TypeSpecifierNonArray, TypeSpecifiers, ArraySpecifierDimension, StructFieldSpecifier, StructFieldSpecifiers, ArrayedIdentifier, ArrayedIdentifiers, Qualification, TypeQualifierSpec, LayoutQualifier, LayoutQualifierSpec}
-use Rattle.text.specs.Text.{precedence, binary-precedence, unary-precedence, doubles, unary-op, unary-symbol, binary-symbol, assignment-symbol, a-token, a-word, a-symbol, a-space, show-name, bare-if, without-types, show-type-specifier-non-array, show-type-specifier, show-type-specifiers, show-struct-fields, show-struct-field, show-array-spec, show-dimension, show-arrayed-identifier, show-arrayed-identifiers, show-qualification, show-type-qualifier, show-type-qualifier-spec, show-layout-ids, show-layout-qualifier-spec, show-expr, show-exprs, show-function-identifier}
+use Rattle.text.specs.Text.{precedence, binary-precedence, unary-precedence, doubles, unary-op, unary-symbol, binary-symbol, assignment-symbol, a-token, a-word, a-symbol, a-space, bare-if, without-types, show-type-specifier-non-array, show-type-specifier, show-type-specifiers, show-struct-fields, show-struct-field, show-array-spec, show-dimension, show-arrayed-identifier, show-arrayed-identifiers, show-qualification, show-type-qualifier, show-type-qualifier-spec, show-layout-ids, show-layout-qualifier-spec, show-expr, show-exprs, show-function-identifier, show-identifier, optional}
 use Rattle.text.specs.Reading.{Item, Read, Reader, first, nothing, made, give, counted, _and_, several, from, itemOf, exprOf, typeOf, dimensionOf, fieldOf, identifierOf, specOf, layoutIdOf, unaryOp, binaryOp, assignmentOp, storageOf, expr, type, base, array, dimension, field, identifier, qualifier, spec, layout-id, callee, array-if, qualification-if}
 use Rattle.text.proofs.At.{item-at}
 use Rattle.pen.specs.declared.Pen.{Pen}
 use Rattle.pen.specs.Promise.{Wrote, Ran}
 use Rattle.pen.proofs.Chain.{by-token, by-space}
-use Rattle.precedence.specs.Strength.{strengthOf}
+use Rattle.precedence.specs.Precedence.{precedenceOf}
 use Rattle.precedence.proofs.Tree.{strength-at}
 use Rattle.leaves.specs.Shown.{past, Shown, Shows}
 use Rattle.leaves.specs.Operand.{mostUnder}
@@ -55,7 +55,7 @@ sign-at rs ns i j v most m h =
     rw (h, m, ap (λ (x : Item). x .expr) (item-at rs ns i)) (under-sign ns (recordAt rs i) (from rs ns (i + 1)) v)
 
 -- how strongly the expression binds that is read where its record was read
-strength-here : (rs ns : List ℕ) (i j : ℕ) {k v q : ℕ} → i ≡ j → k ≡ recordAt rs i .kind → v ≡ recordAt rs i .variant → q ≡ strengthOf k v → precedence (expr (from rs ns j) .tree) ≡ q
+strength-here : (rs ns : List ℕ) (i j : ℕ) {k v q : ℕ} → i ≡ j → k ≡ recordAt rs i .kind → v ≡ recordAt rs i .variant → q ≡ precedenceOf k v → precedence (expr (from rs ns j) .tree) ≡ q
 unfolding itemOf
 strength-here rs ns i j h hk hv hq =
     rw (sym h) (ap (λ (x : Item). precedence (x .expr .tree)) (item-at rs ns i) ∙ strength-at ns (recordAt rs i) (from rs ns (i + 1)) ∙ sym (rw (sym hk, sym hv) hq))
@@ -328,7 +328,7 @@ module _ (rs ns : List ℕ) {s : Settings} where
             reads (λ x. flush-line ∷ show-struct-field x ++ write-struct-field-separator) field rs ns (field (from rs ns (p₂ .next))) (ap (λ (k : ℕ). field (from rs ns k)) i) refl (omega arith) (wrote o thus a thus wrote c)
 
         -- an operand, in brackets where it binds too weakly
-        pub in-brackets : (most : ℕ) {k v q : ℕ} → k ≡ recordAt rs (p₀ .next) .kind → v ≡ recordAt rs (p₀ .next) .variant → q ≡ strengthOf k v
+        pub in-brackets : (most : ℕ) {k v q : ℕ} → k ≡ recordAt rs (p₀ .next) .kind → v ≡ recordAt rs (p₀ .next) .variant → q ≡ precedenceOf k v
             → Ran s (cond (ltb most q) (a-symbol Symbol.left-paren) []) room₀ p₀ room₂ p₂ → Shows show-expr expr s rs ns room₂ p₂ room₃ p₃
             → Ran s (cond (ltb most q) (a-symbol Symbol.right-paren) []) room₃ p₃ room₁ p₁ → Shows (operand most) expr s rs ns room₀ p₀ room₁ p₁
         in-brackets most {q = q} hk hv hq o a c =
@@ -360,7 +360,7 @@ module _ (rs ns : List ℕ) {s : Settings} where
             ∙ ap (λ (b : Bool). a-word Word.subroutine ++ cond b [] (a-symbol Symbol.left-paren ++ show-type-specifiers ts true ++ a-symbol Symbol.right-paren)) (sym (some-types n h (from rs ns (p₃ .next)))))
 
         pub strukt-parts : (r : Record) {room₄ room₅ room₆ : List ℕ} {p₄ p₅ p₆ : Pen} → Wrote (bytes "struct") room₀ p₀ room₂ p₂ → Wrote (bytes " ") room₂ p₂ room₃ p₃
-            → Ran s (show-name (cond (eqb (r .variant) 1) (some (part ns (r .a) (r .b))) none)) room₃ p₃ room₄ p₄ → Ran s enter-block room₄ p₄ room₅ p₅
+            → Ran s (optional show-identifier (cond (eqb (r .variant) 1) (some (part ns (r .a) (r .b))) none)) room₃ p₃ room₄ p₄ → Ran s enter-block room₄ p₄ room₅ p₅
             → Shows show-struct-fields (several (r .count) field StructFieldSpecifiers.no-fields StructFieldSpecifiers.fields) s rs ns room₅ p₅ room₆ p₆ → Ran s exit-block room₆ p₆ room₁ p₁
             → Shows show-type-specifier-non-array (struct-parts ns r) s rs ns room₀ p₀ room₁ p₁
         unfolding show-type-specifier-non-array spell wordText

@@ -18,7 +18,7 @@ use Rattle.settings.specs.declared.Settings.{Settings}
 use Rattle.text.specs.Token.{Token, spell}
 use Rattle.text.specs.Command.{Command, write-binary-token, write-statement-terminator, write-for-statement-separator, enter-case-label}
 use Rattle.text.specs.Tree.{Expr, Condition, ForInitStatement, JumpStatement, Statement}
-use Rattle.text.specs.Text.{a-word, show-expr, show-fully-specified-type, show-initializer, show-declaration, show-optional-expr, show-optional-condition, show-condition, show-for-init-statement, show-jump-statement, show-statement}
+use Rattle.text.specs.Text.{a-word, show-expr, show-fully-specified-type, show-initializer, show-declaration, show-condition, show-for-init-statement, show-jump-statement, show-statement, optional}
 use Rattle.text.specs.Reading.{Item, maybe, itemOf, conditionOf, forInitOf, expr, full-type, initializer, declaration, condition, for-init, expression-statement, case-label, jump-statement}
 use Rattle.pen.specs.declared.Pen.{Pen}
 use Rattle.pen.specs.Promise.{Wrote, Ran}
@@ -66,13 +66,13 @@ module _ (rs ns : List ℕ) {s : Settings} {room₀ room₁ : List ℕ} {p₀ p�
 
     -- how a for starts: with nothing, an expression, a declaration
     pub starts-empty : r .kind ≡ 70 → r .variant ≡ 0 → p ≡ past rs p₀ → Ran s write-for-statement-separator room₀ p room₁ p₁ → Shows show-for-init-statement for-init s rs ns room₀ p₀ room₁ p₁
-    unfolding show-for-init-statement show-optional-expr itemOf forInitOf
+    unfolding show-for-init-statement optional itemOf forInitOf
     starts-empty k v f o =
         of-parts rs ns e (λ (x : Item). x .for-init) show-for-init-statement 70 (omega arith) k f (begin (ForInitStatement.Expression none) writes wrote o) (rw v refl) refl
 
     pub starts-expr : r .kind ≡ 70 → r .variant ≡ 1 → {room₂ : List ℕ} {p₂ : Pen} → p ≡ past rs p₀ → Shows show-expr expr s rs ns room₀ p room₂ p₂ → Ran s write-for-statement-separator room₂ p₂ room₁ p₁
         → Shows show-for-init-statement for-init s rs ns room₀ p₀ room₁ p₁
-    unfolding show-for-init-statement show-optional-expr itemOf forInitOf
+    unfolding show-for-init-statement optional itemOf forInitOf
     starts-expr k v f a o =
         of-parts rs ns e (λ (x : Item). x .for-init) show-for-init-statement 70 (omega arith) k f (begin (λ (e : Expr). ForInitStatement.Expression (some e)) shows piece show-expr expr a writes wrote o) (rw v refl) refl
 
@@ -94,19 +94,19 @@ module _ (rs ns : List ℕ) {s : Settings} {room₀ room₁ : List ℕ} {p₀ p�
   jump (suc (suc (suc (suc v)))) h w o = absurd (omega arith)
 
   module _ {room₂ : List ℕ} {p₂ : Pen} where
-    pub expression-parts : (v : ℕ) → Shows show-optional-expr (maybe (eqb v 1) expr) s rs ns room₀ p₀ room₂ p₂ → Ran s write-statement-terminator room₂ p₂ room₁ p₁
+    pub expression-parts : (v : ℕ) → Shows (optional show-expr) (maybe (eqb v 1) expr) s rs ns room₀ p₀ room₂ p₂ → Ran s write-statement-terminator room₂ p₂ room₁ p₁
         → Shows (show-behind s) (expression-statement v) s rs ns room₀ p₀ room₁ p₁
     unfolding show-statement
-    expression-parts v a o = so (show-behind s) (begin Statement.Expression shows (piece show-optional-expr (maybe (eqb v 1) expr) a) writes wrote o) refl
+    expression-parts v a o = so (show-behind s) (begin Statement.Expression shows (piece (optional show-expr) (maybe (eqb v 1) expr) a) writes wrote o) refl
 
     pub default-parts : (v : ℕ) → v ≡ 0 → Wrote (bytes "default") room₀ p₀ room₂ p₂ → Ran s enter-case-label room₂ p₂ room₁ p₁ → Shows (show-behind s) (case-label v) s rs ns room₀ p₀ room₁ p₁
     unfolding show-statement spell wordText
     default-parts v h w o = rw h (put (Token.word Word.default) refl w thus wrote o)
 
-    pub rest-parts : (v : ℕ) {room₃ : List ℕ} {p₃ : Pen} → Shows show-optional-condition (maybe (bit0 v) condition) s rs ns room₀ p₀ room₂ p₂ → Ran s write-for-statement-separator room₂ p₂ room₃ p₃
-        → Shows show-optional-expr (maybe (bit1 v) expr) s rs ns room₃ p₃ room₁ p₁ → Shows show-for-rest-statement (forRest v) s rs ns room₀ p₀ room₁ p₁
+    pub rest-parts : (v : ℕ) {room₃ : List ℕ} {p₃ : Pen} → Shows (optional show-condition) (maybe (bit0 v) condition) s rs ns room₀ p₀ room₂ p₂ → Ran s write-for-statement-separator room₂ p₂ room₃ p₃
+        → Shows (optional show-expr) (maybe (bit1 v) expr) s rs ns room₃ p₃ room₁ p₁ → Shows show-for-rest-statement (forRest v) s rs ns room₀ p₀ room₁ p₁
     rest-parts v a o b =
-        so show-for-rest-statement (begin rest-of shows (piece show-optional-condition (maybe (bit0 v) condition) a) writes wrote o shows (piece show-optional-expr (maybe (bit1 v) expr) b)) refl
+        so show-for-rest-statement (begin rest-of shows (piece (optional show-condition) (maybe (bit0 v) condition) a) writes wrote o shows (piece (optional show-expr) (maybe (bit1 v) expr) b)) refl
 
     module _ {room₃ room₄ : List ℕ} {p₃ p₄ : Pen} where
       pub return-parts : (v : ℕ) → 4 ≤ v → Ran s (a-word (jumpWord v)) room₀ p₀ room₂ p₂ → Wrote (bytes " ") room₂ p₂ room₃ p₃ → Shows show-expr expr s rs ns room₃ p₃ room₄ p₄

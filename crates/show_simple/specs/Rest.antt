@@ -6,7 +6,7 @@ use Prim.Native.Nat.{ℕ}
 use Rattle.records.specs.Record.{bit0, bit1}
 use Rattle.text.specs.Command.{Command, write-for-statement-separator}
 use Rattle.text.specs.Tree.{Expr, Condition}
-use Rattle.text.specs.Text.{show-optional-condition, show-optional-expr}
+use Rattle.text.specs.Text.{show-condition, show-expr, optional}
 use Rattle.text.specs.Reading.{Reader, give, _and_, maybe, expr, condition}
 
 pub record ForRestStatement : Type 0 where
@@ -18,4 +18,4 @@ abbrev pub forRest : (v : ℕ) → Reader ForRestStatement
 forRest v = give (λ c e. record { condition = c; post-expr = e }) and maybe (bit0 v) condition and maybe (bit1 v) expr
 
 abbrev pub show-for-rest-statement : ForRestStatement → List Command
-show-for-rest-statement r = show-optional-condition (r .condition) ++ write-for-statement-separator ++ show-optional-expr (r .post-expr)
+show-for-rest-statement r = optional show-condition (r .condition) ++ write-for-statement-separator ++ optional show-expr (r .post-expr)

@@ -2,7 +2,7 @@
 // show_for_init_statement, show_for_rest_statement and show_jump_statement. One works behind its record where its comment says so, and else reads it.
 ghost use mathlib.Core.Path.{_≡_};
 ghost use Rattle.word_table.specs.Table as Table;
-ghost use Rattle.text.specs.Text.{show-statement, show-optional-expr, show-optional-condition, show-condition, show-for-init-statement, show-jump-statement};
+ghost use Rattle.text.specs.Text.{show-statement, show-condition, show-for-init-statement, show-jump-statement, show-expr, optional};
 ghost use Rattle.text.specs.Reading as Reading;
 ghost use Rattle.text.specs.Reading.{maybe, expression-statement, case-label, jump-statement};
 ghost use Rattle.leaves.specs.Shown.{Shows};
@@ -24,7 +24,7 @@ fn show_optional_expr(
     on: bool,
 ) -> Pen
     requires { ⌜ now t ≡ Table.table ⌝ }
-    ensures { λ r. ⌜ Shows show-optional-expr (maybe on Reading.expr) s (now (records .entry)) (now (names .entry)) (now (room .entry)) pen (now (room .exit)) r ⌝ }
+    ensures { λ r. ⌜ Shows (optional show-expr) (maybe on Reading.expr) s (now (records .entry)) (now (names .entry)) (now (room .entry)) pen (now (room .exit)) r ⌝ }
 {
     if on {
         return show_expr::show_expr(s, t, records, names, room, pen);
@@ -137,7 +137,7 @@ fn show_optional_condition(
     on: bool,
 ) -> Pen
     requires { ⌜ now t ≡ Table.table ⌝ }
-    ensures { λ r. ⌜ Shows show-optional-condition (maybe on Reading.condition) s (now (records .entry)) (now (names .entry)) (now (room .entry)) pen (now (room .exit)) r ⌝ }
+    ensures { λ r. ⌜ Shows (optional show-condition) (maybe on Reading.condition) s (now (records .entry)) (now (names .entry)) (now (room .entry)) pen (now (room .exit)) r ⌝ }
 {
     if on {
         return show_condition(s, t, records, names, room, pen);

@@ -18,7 +18,7 @@ use Rattle.text.specs.Pen.{pend, atBody}
 use Rattle.text.specs.Command.{Command, write-else, write-statement-terminator, write-for-statement-separator, write-statement-opening-parenthesis, write-statement-closing-parenthesis, enter-block, exit-block}
 use Rattle.text.specs.Command.Command.{flush-line, flush-space, consume-newline, consume-function-definition-statement}
 use Rattle.text.specs.Tree.{Expr, Statement}
-use Rattle.text.specs.Text.{a-word, compound, show-compound-statement, show-expr, show-declaration, show-optional-expr, show-optional-condition, show-condition, show-for-init-statement, show-jump-statement, show-statement, show-statements}
+use Rattle.text.specs.Text.{a-word, braced-or-collapsed, show-compound-statement, show-expr, show-declaration, show-condition, show-for-init-statement, show-jump-statement, show-statement, show-statements, optional}
 use Rattle.text.specs.Reading.{Item, Reader, give, made, counted, _and_, from, itemOf, statementOf, compoundOf, expr, declaration, condition, for-init, statement, statements, selection-statement, switch-statement, while-statement, do-while-statement, for-statement, jump-statement}
 use Rattle.text.proofs.At.{single-item-count}
 use Rattle.pen.specs.declared.Pen.{Pen}
@@ -129,14 +129,14 @@ module _ (rs ns : List ℕ) {s : Settings} where
 
     -- a compound statement between what enters and what leaves it, collapsed or in braces: whether it holds one statement is what its record counts
     pub compound-parts : (b body : Bool) (n : ℕ) {enter exit : List Command} {room₂ room₃ : List ℕ} {p₂ p₃ p₄ : Pen}
-        → ((cs : List Command) → enter ++ (consume-function-definition-statement ∷ []) ++ cs ++ exit ≡ compound b cs) → not body && collapse s && eqb n 1 ≡ b → Ran s enter room₀ p₀ room₂ p₂
+        → ((cs : List Command) → enter ++ (consume-function-definition-statement ∷ []) ++ cs ++ exit ≡ braced-or-collapsed b cs) → not body && collapse s && eqb n 1 ≡ b → Ran s enter room₀ p₀ room₂ p₂
         → p₃ ≡ leave (atBody false (p₂ .state)) p₂ → Shows (show-statements (collapse s)) (statements n) s rs ns room₂ p₃ room₃ p₄ → Ran s exit room₃ p₄ room₁ p₁
         → Shows (show-compound-statement (collapse s) body) (statements n) s rs ns room₀ p₀ room₁ p₁
     compound-parts b body n {enter = enter} {exit = exit} h t o c a x =
         let L = from rs ns (p₀ .next) in
         let ss = statements n L .tree in
         told
-        (h (show-statements (collapse s) ss) ∙ ap (λ (y : Bool). compound y (show-statements (collapse s) ss)) (sym (ap (λ (y : Bool). not body && collapse s && y) (single-item-count n L) ∙ t)))
+        (h (show-statements (collapse s) ss) ∙ ap (λ (y : Bool). braced-or-collapsed y (show-statements (collapse s) ss)) (sym (ap (λ (y : Bool). not body && collapse s && y) (single-item-count n L) ∙ t)))
         (add-zero _) (item-behind rs ns (show-statements (collapse s)) (statements n) (o then by-consume-function-definition-statement c) a thus wrote x)
 
     module _ {room₂ room₃ room₄ room₅ : List ℕ} {p₂ p₃ p₄ p₅ : Pen} where
@@ -180,8 +180,8 @@ module _ (rs ns : List ℕ) {s : Settings} where
             (begin for-of writes put (Token.word Word.for) refl w writes wrote o shows (piece show-for-init-statement for-init a) writes wrote f shows (piece show-for-rest-statement (forRest v) b) writes wrote c
             shows (piece (show-statement (collapse s)) statement d))
             (ap (λ (l : List Command). l ++ write-statement-closing-parenthesis ++ t)
-            (sym (enclosed (before ++ (flush-space ∷ [])) (show-optional-condition (r .condition)) write-for-statement-separator (show-optional-expr (r .post-expr)))
-            ∙ ap (λ (l : List Command). l ++ write-for-statement-separator ++ show-optional-expr (r .post-expr)) (append-assoc before (flush-space ∷ []) (show-optional-condition (r .condition))))))
+            (sym (enclosed (before ++ (flush-space ∷ [])) (optional show-condition (r .condition)) write-for-statement-separator (optional show-expr (r .post-expr)))
+            ∙ ap (λ (l : List Command). l ++ write-for-statement-separator ++ optional show-expr (r .post-expr)) (append-assoc before (flush-space ∷ []) (optional show-condition (r .condition))))))
 
         pub do-while-parts : {room₈ room₉ : List ℕ} {p₈ p₉ : Pen} → Wrote (bytes "do") room₀ p₀ room₂ p₂ → Wrote (bytes " ") room₂ p₂ room₃ p₃ → Shows (show-statement (collapse s)) statement s rs ns room₃ p₃ room₄ p₄
             → Wrote (bytes " ") room₄ p₄ room₅ p₅ → Wrote (bytes "while") room₅ p₅ room₆ p₆ → Ran s write-statement-opening-parenthesis room₆ p₆ room₇ p₇ → Shows show-expr expr s rs ns room₇ p₇ room₈ p₈

@@ -1,5 +1,4 @@
 pub mod Computing
-pub mod Case
 pub mod Rows
 pub mod Orders
 pub mod IntText

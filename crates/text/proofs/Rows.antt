@@ -8,7 +8,7 @@ use mathlib.Core.Option.{Option, none, some}
 use Rattle.words.specs.Bytes.{bytes}
 use Rattle.records.proofs.Made.{rec, plain, many, named}
 use Rattle.settings.specs.Settings.{TIGHT, OPEN}
-use Rattle.text.proofs.Case.{Case, defined}
+use Rattle.text.specs.Case.{Case, defined}
 use Rattle.text.proofs.Computing.{computing}
 
 -- expressions

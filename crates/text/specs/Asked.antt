@@ -5,27 +5,15 @@ use Rattle.settings.specs.declared.Whitespace.{Whitespace}
 
 -- but for collapse_single_item_compound_statements, which decides what commands there are
 pub data Flag : Type 0 where
-  space-before-open-block : Flag
-  newline-after-open-block : Flag
-  newline-before-close-block : Flag
-  newline-after-close-block : Flag
-  newline-after-collapsed-statement : Flag
-  newline-before-collapsed-statement : Flag
-  spaces-around-binary-ops : Flag
-  space-before-else : Flag
-  space-after-list-separator : Flag
-  space-after-for-statement-separator : Flag
-  spaces-surrounding-initializer-list-expressions : Flag
-  spaces-surrounding-statement-parentheses : Flag
+  space-before-open-block newline-after-open-block newline-before-close-block newline-after-close-block : Flag
+  newline-after-collapsed-statement newline-before-collapsed-statement : Flag
+  spaces-around-binary-ops space-before-else space-after-list-separator space-after-for-statement-separator : Flag
+  spaces-surrounding-initializer-list-expressions spaces-surrounding-statement-parentheses : Flag
 
 -- struct_declaration_terminator is asked for by show_struct alone, which 01 leaves out
 pub data Gap : Type 0 where
-  struct-field-separator : Gap
-  struct-declaration-terminator : Gap
-  declaration-terminator : Gap
-  case-label-terminator : Gap
-  statement-terminator : Gap
-  function-definition-terminator : Gap
+  struct-field-separator struct-declaration-terminator declaration-terminator : Gap
+  case-label-terminator statement-terminator function-definition-terminator : Gap
 
 unfoldable pub flag : Settings → Flag → Bool
 flag s space-before-open-block = s .«space_before_open_block»

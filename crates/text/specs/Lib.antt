@@ -8,3 +8,4 @@ pub mod Reading
 pub mod Whole
 pub mod Joined
 pub mod Visible
+pub mod Case

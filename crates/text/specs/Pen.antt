@@ -1,4 +1,4 @@
--- The pen: what each command writes under the settings, and the state that it leaves. Assumes nothing.
+-- The pen: what each command writes under the settings, and the state that it leaves (01, "Rules of the text"; 000 FormattingState). Assumes nothing.
 use mathlib.Core.Bool.{Bool, true, false, _&&_, cond}
 use mathlib.Core.List.{List, [], _∷_, _++_}
 use Prim.Native.Nat.{ℕ, _+_, _*_, _-_}

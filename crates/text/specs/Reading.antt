@@ -143,7 +143,7 @@ abbrev pub by-variant : {A : Type 0} → ℕ → List (Row A) → Reader A → R
 by-variant v [] last = last
 by-variant v (r ∷ rs) last = cond (eqb v (r .number)) (r .reading) (by-variant v rs last)
 
--- the parts
+-- the parts: what stands first, as each sort (and `..Of`, below, is the reading of a record as that sort)
 abbrev pub expr : Reader Expr
 expr L = first L .expr
 

@@ -32,26 +32,33 @@ assignment-precedence = 16
 abbrev pub comma-precedence : ℕ
 comma-precedence = 17
 
-unfoldable pub binary-precedence : BinaryOp → ℕ
-binary-precedence BinaryOp.Mult = 4
-binary-precedence BinaryOp.Div = 4
-binary-precedence BinaryOp.Mod = 4
-binary-precedence BinaryOp.Add = 5
-binary-precedence BinaryOp.Sub = 5
-binary-precedence BinaryOp.LShift = 6
-binary-precedence BinaryOp.RShift = 6
-binary-precedence BinaryOp.Lt = 7
-binary-precedence BinaryOp.Gt = 7
-binary-precedence BinaryOp.Lte = 7
-binary-precedence BinaryOp.Gte = 7
-binary-precedence BinaryOp.Equal = 8
-binary-precedence BinaryOp.NonEqual = 8
-binary-precedence BinaryOp.BitAnd = 9
-binary-precedence BinaryOp.BitXor = 10
-binary-precedence BinaryOp.BitOr = 11
-binary-precedence BinaryOp.And = 12
-binary-precedence BinaryOp.Xor = 13
-binary-precedence BinaryOp.Or = 14
+-- each binary operator, in the order of show_binary_op: its symbol, and how strongly it binds
+unfoldable pub binary-op : BinaryOp → Symbol × ℕ
+binary-op BinaryOp.Or = (Symbol.or-op, 14)
+binary-op BinaryOp.Xor = (Symbol.xor-op, 13)
+binary-op BinaryOp.And = (Symbol.and-op, 12)
+binary-op BinaryOp.BitOr = (Symbol.vertical-bar, 11)
+binary-op BinaryOp.BitXor = (Symbol.caret, 10)
+binary-op BinaryOp.BitAnd = (Symbol.ampersand, 9)
+binary-op BinaryOp.Equal = (Symbol.eq-op, 8)
+binary-op BinaryOp.NonEqual = (Symbol.ne-op, 8)
+binary-op BinaryOp.Lt = (Symbol.left-angle, 7)
+binary-op BinaryOp.Gt = (Symbol.right-angle, 7)
+binary-op BinaryOp.Lte = (Symbol.le-op, 7)
+binary-op BinaryOp.Gte = (Symbol.ge-op, 7)
+binary-op BinaryOp.LShift = (Symbol.left-op, 6)
+binary-op BinaryOp.RShift = (Symbol.right-op, 6)
+binary-op BinaryOp.Add = (Symbol.plus, 5)
+binary-op BinaryOp.Sub = (Symbol.dash, 5)
+binary-op BinaryOp.Mult = (Symbol.star, 4)
+binary-op BinaryOp.Div = (Symbol.slash, 4)
+binary-op BinaryOp.Mod = (Symbol.percent, 4)
+
+abbrev pub binary-symbol : BinaryOp → Symbol
+binary-symbol op = binary-op op .0
+
+abbrev pub binary-precedence : BinaryOp → ℕ
+binary-precedence op = binary-op op .1
 
 unfoldable pub precedence : Expr → ℕ
 precedence Expr.no-expr = atomic-precedence
@@ -72,7 +79,7 @@ precedence (Expr.PostInc e) = postfix-precedence
 precedence (Expr.PostDec e) = postfix-precedence
 precedence (Expr.Comma a b) = comma-precedence
 
--- show_unary_op, show_binary_op, show_assignment_op
+-- show_unary_op, show_assignment_op
 
 unfoldable pub unary-symbol : UnaryOp → Symbol
 unary-symbol UnaryOp.Inc = Symbol.inc-op
@@ -81,27 +88,6 @@ unary-symbol UnaryOp.Add = Symbol.plus
 unary-symbol UnaryOp.Minus = Symbol.dash
 unary-symbol UnaryOp.Not = Symbol.bang
 unary-symbol UnaryOp.Complement = Symbol.tilde
-
-unfoldable pub binary-symbol : BinaryOp → Symbol
-binary-symbol BinaryOp.Or = Symbol.or-op
-binary-symbol BinaryOp.Xor = Symbol.xor-op
-binary-symbol BinaryOp.And = Symbol.and-op
-binary-symbol BinaryOp.BitOr = Symbol.vertical-bar
-binary-symbol BinaryOp.BitXor = Symbol.caret
-binary-symbol BinaryOp.BitAnd = Symbol.ampersand
-binary-symbol BinaryOp.Equal = Symbol.eq-op
-binary-symbol BinaryOp.NonEqual = Symbol.ne-op
-binary-symbol BinaryOp.Lt = Symbol.left-angle
-binary-symbol BinaryOp.Gt = Symbol.right-angle
-binary-symbol BinaryOp.Lte = Symbol.le-op
-binary-symbol BinaryOp.Gte = Symbol.ge-op
-binary-symbol BinaryOp.LShift = Symbol.left-op
-binary-symbol BinaryOp.RShift = Symbol.right-op
-binary-symbol BinaryOp.Add = Symbol.plus
-binary-symbol BinaryOp.Sub = Symbol.dash
-binary-symbol BinaryOp.Mult = Symbol.star
-binary-symbol BinaryOp.Div = Symbol.slash
-binary-symbol BinaryOp.Mod = Symbol.percent
 
 unfoldable pub assignment-symbol : AssignmentOp → Symbol
 assignment-symbol AssignmentOp.Equal = Symbol.equal
@@ -207,10 +193,10 @@ unfoldable pub doubles : UnaryOp → Option UnaryOp → Bool
 doubles op none = false
 doubles op (some o) = doubled op o
 
--- in show_struct_non_declaration: the name, if it has one
-abbrev pub show-name : Option Identifier → List Command
-show-name none = []
-show-name (some i) = show-identifier i
+-- what is there or not: a struct's name, a block's identifier, an expression, a condition
+unfoldable pub optional : {A : Type 0} → (A → List Command) → Option A → List Command
+optional show none = []
+optional show (some a) = show a
 
 -- in show_subroutine
 abbrev pub without-types : TypeSpecifiers → Bool
@@ -226,7 +212,7 @@ unfoldable mutual
   show-type-specifier-non-array (TypeSpecifierNonArray.Keyword v) = a-token (Token.type v)
   show-type-specifier-non-array (TypeSpecifierNonArray.TypeName i) = show-identifier i
   show-type-specifier-non-array (TypeSpecifierNonArray.Struct i fs) =
-      a-word Word.struct ++ a-space ++ show-name i ++ enter-block ++ show-struct-fields fs ++ exit-block
+      a-word Word.struct ++ a-space ++ optional show-identifier i ++ enter-block ++ show-struct-fields fs ++ exit-block
 
   pub show-type-specifier : TypeSpecifier → List Command
   show-type-specifier TypeSpecifier.no-type = []
@@ -263,7 +249,7 @@ unfoldable mutual
   show-arrayed-identifiers (ArrayedIdentifiers.identifiers i is) first =
       separator first ++ show-arrayed-identifier i ++ show-arrayed-identifiers is false
 
-  -- where there is a qualifier, a space stands behind it
+  -- in show_fully_specified_type, show_struct_field and show_function_parameter_declaration: where there is a qualifier, a space stands behind it
   pub show-qualification : Qualification → List Command
   show-qualification Qualification.unqualified = []
   show-qualification (Qualification.qualified q) = show-type-qualifier q true ++ a-space
@@ -283,6 +269,7 @@ unfoldable mutual
   show-type-qualifier-spec TypeQualifierSpec.Invariant = a-word Word.invariant
   show-type-qualifier-spec TypeQualifierSpec.Precise = a-word Word.precise
 
+  -- in show_layout_qualifier
   pub show-layout-ids : LayoutQualifier → (first : Bool) → List Command
   show-layout-ids LayoutQualifier.no-ids first = []
   show-layout-ids (LayoutQualifier.ids i is) first = separator first ++ show-layout-qualifier-spec i ++ show-layout-ids is false
@@ -382,15 +369,10 @@ unfoldable pub show-init-declarator-list : InitDeclaratorList → List Command
 show-init-declarator-list InitDeclaratorList.no-declarators = []
 show-init-declarator-list (InitDeclaratorList.declarators d ds) = show-single-declaration d ++ show-tail ds
 
--- in show_block: the identifier behind the fields
-unfoldable pub show-block-name : Option ArrayedIdentifier → List Command
-show-block-name none = []
-show-block-name (some i) = show-arrayed-identifier i
-
 unfoldable pub show-block : Block → List Command
 show-block Block.no-block = []
 show-block (Block.block i q fs n) =
-    show-type-qualifier q true ++ a-space ++ show-identifier i ++ enter-block ++ show-struct-fields fs ++ exit-block ++ show-block-name n
+    show-type-qualifier q true ++ a-space ++ show-identifier i ++ enter-block ++ show-struct-fields fs ++ exit-block ++ optional show-arrayed-identifier n
 
 unfoldable pub show-declaration : Declaration → List Command
 show-declaration Declaration.no-declaration = []
@@ -404,11 +386,6 @@ show-declaration (Declaration.TypeOnly q) = show-type-qualifier q true ++ write-
 
 -- statements
 
--- what is there or not, in show_expression_statement, show_for_init_statement and show_for_rest_statement
-unfoldable pub show-optional-expr : Option Expr → List Command
-show-optional-expr none = []
-show-optional-expr (some e) = show-expr e
-
 unfoldable pub show-condition : Condition → List Command
 show-condition Condition.no-condition = []
 show-condition (Condition.OfExpr e) = show-expr e
@@ -417,13 +394,8 @@ show-condition (Condition.Assignment i t e) =
 
 unfoldable pub show-for-init-statement : ForInitStatement → List Command
 show-for-init-statement ForInitStatement.no-for-init = []
-show-for-init-statement (ForInitStatement.Expression e) = show-optional-expr e ++ write-for-statement-separator
+show-for-init-statement (ForInitStatement.Expression e) = optional show-expr e ++ write-for-statement-separator
 show-for-init-statement (ForInitStatement.OfDeclaration d) = show-declaration d
-
--- in show_for_rest_statement
-unfoldable pub show-optional-condition : Option Condition → List Command
-show-optional-condition none = []
-show-optional-condition (some c) = show-condition c
 
 unfoldable pub show-jump-statement : JumpStatement → List Command
 show-jump-statement JumpStatement.Continue = a-word Word.continue ++ write-statement-terminator
@@ -439,9 +411,9 @@ single-item (Statements.statements s Statements.no-statements) = true
 single-item (Statements.statements s (Statements.statements t ts)) = false
 
 -- in show_compound_statement: collapsed or in braces, from the commands of its statements
-abbrev pub compound : (collapsed : Bool) → List Command → List Command
-compound true cs = enter-collapsed-compound-statement ++ (consume-function-definition-statement ∷ cs) ++ exit-collapsed-compound-statement
-compound false cs = enter-compound-statement-block ++ (consume-function-definition-statement ∷ cs) ++ exit-block
+abbrev pub braced-or-collapsed : (collapsed : Bool) → List Command → List Command
+braced-or-collapsed true cs = enter-collapsed-compound-statement ++ (consume-function-definition-statement ∷ cs) ++ exit-collapsed-compound-statement
+braced-or-collapsed false cs = enter-compound-statement-block ++ (consume-function-definition-statement ∷ cs) ++ exit-block
 
 -- `collapse` is the one setting that decides which commands there are
 module _ (collapse : Bool) where
@@ -452,8 +424,8 @@ module _ (collapse : Bool) where
     pub show-statement : Statement → List Command
     show-statement Statement.no-statement = flush-line ∷ []
     show-statement (Statement.OfDeclaration d) = flush-line ∷ show-declaration d
-    show-statement (Statement.Compound ss) = flush-line ∷ compound (collapse && single-item ss) (show-statements ss)
-    show-statement (Statement.Expression e) = flush-line ∷ show-optional-expr e ++ write-statement-terminator
+    show-statement (Statement.Compound ss) = flush-line ∷ braced-or-collapsed (collapse && single-item ss) (show-statements ss)
+    show-statement (Statement.Expression e) = flush-line ∷ optional show-expr e ++ write-statement-terminator
     show-statement (Statement.If e s) =
         flush-line ∷ a-word Word.if ++ write-statement-opening-parenthesis ++ show-expr e ++ write-statement-closing-parenthesis ++ show-statement s
     show-statement (Statement.IfElse e s t) =
@@ -467,7 +439,7 @@ module _ (collapse : Bool) where
     show-statement (Statement.DoWhile s e) =
         flush-line ∷ a-word Word.«do» ++ a-space ++ show-statement s ++ a-space ++ a-word Word.while ++ write-statement-opening-parenthesis ++ show-expr e ++ a-symbol Symbol.right-paren ++ write-statement-terminator
     show-statement (Statement.For i c e s) =
-        flush-line ∷ a-word Word.for ++ write-statement-opening-parenthesis ++ show-for-init-statement i ++ (flush-space ∷ show-optional-condition c) ++ write-for-statement-separator ++ show-optional-expr e ++ write-statement-closing-parenthesis ++ show-statement s
+        flush-line ∷ a-word Word.for ++ write-statement-opening-parenthesis ++ show-for-init-statement i ++ (flush-space ∷ optional show-condition c) ++ write-for-statement-separator ++ optional show-expr e ++ write-statement-closing-parenthesis ++ show-statement s
     show-statement (Statement.OfJump j) = flush-line ∷ show-jump-statement j
 
     pub show-statements : Statements → List Command
@@ -477,7 +449,7 @@ module _ (collapse : Bool) where
   -- 000 collapses where the setting says so, there is one statement, and no function's body begins here; the last is known to whoever asks (within
   -- show-statement, where it is no function's body, the same is written out)
   abbrev pub show-compound-statement : (body : Bool) → Statements → List Command
-  show-compound-statement body ss = compound (not body && collapse && single-item ss) (show-statements ss)
+  show-compound-statement body ss = braced-or-collapsed (not body && collapse && single-item ss) (show-statements ss)
 
   -- the unit
 

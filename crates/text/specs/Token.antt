@@ -1,4 +1,4 @@
--- The tokens of the text, and how each is spelled. Assumes nothing.
+-- The tokens of the text, and how each is spelled (01, "Tree records"; 000 show_expr, show_float, show_double). Assumes nothing.
 use mathlib.Core.Bool.{Bool, true, false, cond}
 use mathlib.Core.List.{List, [], _∷_, _++_}
 use Prim.Native.Nat.{ℕ}
@@ -23,6 +23,7 @@ pub data Token : Type 0 where
   word : Word → Token
   symbol : Symbol → Token
 
+-- byte c stands in it
 unfoldable pub has : ℕ → List ℕ → Bool
 has c [] = false
 has c (b ∷ bs) = cond (eqb b c) true (has c bs)

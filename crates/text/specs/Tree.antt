@@ -1,5 +1,6 @@
--- The trees, with the names of 001 (ast.rs). `Of..` stands where 001's own word is taken; what the record itself holds comes before its children. Each sort
--- has a value `no-..` for records that are not what is expected there. Assumes nothing.
+-- The trees, with the names of 001 (ast.rs). `Of..` stands where 001's own word is taken; what the record itself holds comes before its children (but `single` keeps
+-- 001's order). Each sort that a record is read as has a value `no-..` for records that are not what is expected there (a unit: []); of a list it is the empty one, too.
+-- Assumes nothing.
 use mathlib.Core.Bool.{Bool}
 use mathlib.Core.List.{List}
 use mathlib.Core.Option.{Option}

@@ -1,4 +1,4 @@
--- The text of a unit and of an expression, from the bytes of settings, records and names. Assumes nothing.
+-- The text of a unit and of an expression, from the bytes of settings, records and names (01, "Calls"). Assumes nothing.
 use mathlib.Core.List.{List}
 use Prim.Native.Nat.{ℕ}
 use Rattle.settings.specs.Settings.{settingsOf}

@@ -11,7 +11,7 @@ use lib.Dec.{ltb}
 use Rattle.words.specs.Bytes.{bytes}
 use Rattle.records.specs.Record.{recordCount}
 use Rattle.text.specs.Reading.{itemAt}
-use Rattle.text.proofs.Case.{Case, defined}
+use Rattle.text.specs.Case.{Case, defined}
 
 -- the bytes of a text of pairs of hexadecimal digits
 abbrev digit : ℕ → ℕ

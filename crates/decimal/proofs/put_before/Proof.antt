@@ -5,7 +5,7 @@ use native.Mathlib.Omega.{arith}
 use borrow.Author.Needs.{needs}
 use lib.ListN.{length, length-set}
 use lib.Seq.{sets}
-use Rattle.decimal.specs.Decimal.{digit, decimal}
+use Rattle.decimal.specs.Decimal.{digitByte, decimal}
 use Rattle.decimal.proofs.Laws.{length-big, length-positive}
 use Rattle.decimal.proofs.Places.{ending, ending-big, ending-small}
 use Rattle.decimal.proofs.put_before.Statement.{statement}
@@ -48,7 +48,7 @@ loop-again c =
     let l = c .before .loop in
     let e = length-big (l .left) (c .loop-test .taken) in
     let p = length-positive (l .left / 10) in
-    let k = length-set (l .room) (l .place) (digit (l .left % 10)) in (
+    let k = length-set (l .room) (l .place) (digitByte (l .left % 10)) in (
       omega arith,
       omega arith,
       k ∙ l .inv .2,

@@ -1,6 +1,6 @@
 -- `show_declaration::show_block_name` meets its contract. Assumes nothing.
 use mathlib.Core.Path.{refl}
-use Rattle.text.specs.Text.{show-arrayed-identifier, show-block-name}
+use Rattle.text.specs.Text.{show-arrayed-identifier, optional}
 use Rattle.text.specs.Reading.{identifier}
 use Rattle.leaves.proofs.Shown.{nothing-shown}
 use Rattle.show_expr.proofs.Parts.{there}
@@ -15,11 +15,11 @@ same-length : tie.Need-same-length
 same-length c = search needs
 
 returns : tie.Need-returns
-unfolding show-block-name
-returns c = there (c .before .before .before .before .before .before .before .before .args .records .now) (c .before .before .before .before .before .before .before .before .args .names .now) identifier show-arrayed-identifier show-block-name (λ x. refl) (c .before .before .before .before .if1 .taken) (c .before .before .ident .ensures)
+unfolding optional
+returns c = there (c .before .before .before .before .before .before .before .before .args .records .now) (c .before .before .before .before .before .before .before .before .args .names .now) identifier show-arrayed-identifier (optional show-arrayed-identifier) (λ x. refl) (c .before .before .before .before .if1 .taken) (c .before .before .ident .ensures)
 
 returns-2 : tie.Need-returns-2
-unfolding show-block-name
+unfolding optional
 returns-2 c = rw (c .if1 .left) nothing-shown
 
 pub show-block-name-spec : {M : Type 1} → statement M

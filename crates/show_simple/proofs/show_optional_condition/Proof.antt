@@ -1,6 +1,6 @@
 -- `show_simple::show_optional_condition` meets its contract. Assumes nothing.
 use mathlib.Core.Path.{refl}
-use Rattle.text.specs.Text.{show-condition, show-optional-condition}
+use Rattle.text.specs.Text.{show-condition, optional}
 use Rattle.text.specs.Reading.{condition}
 use Rattle.leaves.proofs.Shown.{nothing-shown}
 use Rattle.show_expr.proofs.Parts.{there}
@@ -15,11 +15,11 @@ same-length : tie.Need-same-length
 same-length c = search needs
 
 returns : tie.Need-returns
-unfolding show-optional-condition
-returns c = there (c .before .before .before .before .before .before .before .before .args .records .now) (c .before .before .before .before .before .before .before .before .args .names .now) condition show-condition show-optional-condition (λ x. refl) (c .before .before .before .before .if1 .taken) (c .before .before .show-condition .ensures)
+unfolding optional
+returns c = there (c .before .before .before .before .before .before .before .before .args .records .now) (c .before .before .before .before .before .before .before .before .args .names .now) condition show-condition (optional show-condition) (λ x. refl) (c .before .before .before .before .if1 .taken) (c .before .before .show-condition .ensures)
 
 returns-2 : tie.Need-returns-2
-unfolding show-optional-condition
+unfolding optional
 returns-2 c = rw (c .if1 .left) nothing-shown
 
 pub show-optional-condition-spec : {M : Type 1} → statement M

@@ -1,6 +1,6 @@
 -- `show_simple::show_optional_expr` meets its contract. Assumes nothing.
 use mathlib.Core.Path.{refl}
-use Rattle.text.specs.Text.{show-expr, show-optional-expr}
+use Rattle.text.specs.Text.{show-expr, optional}
 use Rattle.text.specs.Reading.{expr}
 use Rattle.leaves.proofs.Shown.{nothing-shown}
 use Rattle.show_expr.proofs.Parts.{there}
@@ -15,11 +15,11 @@ same-length : tie.Need-same-length
 same-length c = search needs
 
 returns : tie.Need-returns
-unfolding show-optional-expr
-returns c = there (c .before .before .before .before .before .before .before .before .args .records .now) (c .before .before .before .before .before .before .before .before .args .names .now) expr show-expr show-optional-expr (λ x. refl) (c .before .before .before .before .if1 .taken) (c .before .before .show-expr .ensures)
+unfolding optional
+returns c = there (c .before .before .before .before .before .before .before .before .args .records .now) (c .before .before .before .before .before .before .before .before .args .names .now) expr show-expr (optional show-expr) (λ x. refl) (c .before .before .before .before .if1 .taken) (c .before .before .show-expr .ensures)
 
 returns-2 : tie.Need-returns-2
-unfolding show-optional-expr
+unfolding optional
 returns-2 c = rw (c .if1 .left) nothing-shown
 
 pub show-optional-expr-spec : {M : Type 1} → statement M
