@@ -1,46 +1,196 @@
 #!/usr/bin/env python3
-"""believed.py: what a reader must believe. Follows the definitions that the public contracts and promise 3 cite, module by module, and counts the lines of each: blank
-lines, comments and imports left out. Run it from the repository's root."""
+"""believed.py: what a reader must believe. Follows names from the contracts of the public calls and from promise 3, definition by definition, and counts the
+lines of each that is reached: blank lines, comments and imports left out. Run it from the repository's root.
+
+    tools/believed.py            the lines of each file, and in all
+    tools/believed.py --unread   which definitions of those files are not reached"""
 import os
 import re
 import sys
 
-# The definitions that a public contract or promise 3 names.
-ROOTS = [("glsl", "Printed"), ("glsl", "Joined"), ("records", "Record"), ("print", "Told"), ("reading", "Demand3")]
-IMPORT = re.compile(r"^(?:unfoldable pub )?use Rattle·(\w+)(?:·specs)?\.specs\.(\w+)", re.M)
+# The public calls, by the file that has their contracts (None: every public function of it), what the program `print` writes, and the settings TIGHT and OPEN.
+CALLS = {
+    "crates/glsl/src/lib.rt": None,
+    "crates/records/src/lib.rt": ["name"],
+    "crates/print/src/main.rt": ["answer"],
+    "crates/settings/src/lib.rt": ["tight", "open"],
+}
+# Promise 3, about the words of GLSL; it holds for the preprocessor's words too, and for those of any language between (crates/reading/proofs/Demand3.antt).
+PROMISE_3 = [("reading", "Demand3", "Demand3"), ("lexis", "Glsl", "glsl-word")]
+OTHER_LANGUAGES = [("lexis", "Preprocessing", "Between")]
+
+IMPORT = re.compile(r"^\s*(?:ghost |unfoldable |pub )*use Rattle·(\w+)(?:·specs)?\.specs\.([\w.-]+?)(?:\.\{(.*)\})?(?: as (\S+?))?;?$")
+WORDS = re.compile(r"[^\s(){}\[\],;]+")
 
 
 def path_of(crate, module):
     return os.path.join("crates", crate, "specs", module + ".antt")
 
 
-def counted(source):
-    """The lines that say something."""
-    lines = [line.strip() for line in source.split("\n")]
-    return sum(1 for line in lines if line and not line.startswith(("--", "use ", "unfoldable pub use ")))
+class Module:
+    """A file of specs/: its definitions by name, each a list of lines; constructors and operators lead to the definition that they belong to."""
+
+    def __init__(self, crate, name):
+        self.lines, self.owner, self.imports, self.aliases = {}, {}, {}, {}
+        with open(path_of(crate, name), encoding="utf-8") as file:
+            self.read(file.read().split("\n"))
+
+    def read(self, lines):
+        current, waiting, in_data = None, [], False
+        for line in lines:
+            text = line.split(" -- ")[0].rstrip() if not line.strip().startswith("--") else ""
+            if not text.strip():
+                continue
+            if take_import(text, self.imports, self.aliases):
+                continue
+            indent = len(text) - len(text.lstrip())
+            if re.match(r"\s*(module |mutual$|unfoldable mutual$|infix)", text):
+                waiting.append(text)  # counted with the definition that follows
+                continue
+            kind = re.match(r"\s*pub (data|record) (\S+)", text)
+            if kind:
+                current, in_data, data_indent = kind.group(2), True, indent
+                self.begin(current, waiting, text)
+                waiting = []
+                continue
+            if in_data and indent > data_indent:
+                self.lines[current].append(text)
+                names = text.split(" : ")[0].split()
+                for name in names:
+                    if name != "pub":
+                        self.owner[name] = current
+                continue
+            in_data = False
+            signature = re.match(r"\s*(?:abbrev |unfoldable |pub )*([^\s(]+) :(?: |$)", text)
+            if signature:
+                current = signature.group(1)
+                self.begin(current, waiting, text)
+                waiting = []
+            else:
+                self.lines[current].append(text)
+
+    def begin(self, name, waiting, text):
+        self.lines[name] = waiting + [text]
+        self.owner[name] = name
+        if "_" in name and name != "_":
+            for part in name.split("_"):
+                if part:
+                    self.owner[part] = name
+
+
+def take_import(text, imports, aliases):
+    """Notes an import; says whether the line is one."""
+    if not re.match(r"\s*(?:ghost |unfoldable |pub )*use ", text):
+        return False
+    found = IMPORT.match(text)
+    if found:
+        crate, path, names, alias = found.groups()
+        module = path.split(".")[0]
+        # What `declared` brings is an enum or a struct of the code; a library's own definitions are the kit's.
+        if module != "declared" and os.path.exists(path_of(crate, module)):
+            if alias:
+                aliases[alias] = (crate, module)
+            for name in (names or "").split(","):
+                plain, _, other = name.strip().partition(" as ")
+                if plain:
+                    imports[(other or plain).strip("_") if "_" in plain else (other or plain)] = (crate, module, plain)
+    return True
+
+
+def targets(text, module_key, module, load):
+    """The definitions that a text names."""
+    for word in WORDS.findall(text):
+        for part in [word] + word.split("."):
+            part = part.strip(".")
+            if part in module.imports:
+                crate, name, plain = module.imports[part]
+                yield resolve(crate, name, plain, load)
+            elif part in module.owner:
+                yield module_key + (module.owner[part],)
+        left, _, right = word.partition(".")
+        if left in module.aliases:
+            crate, name = module.aliases[left]
+            yield resolve(crate, name, right.split(".")[0], load)
+
+
+def resolve(crate, name, plain, load):
+    """Where a name is defined: the file itself, or one that it hands on."""
+    module = load(crate, name)
+    if plain in module.owner:
+        return (crate, name, module.owner[plain])
+    if plain in module.imports:
+        return resolve(*module.imports[plain][:2], module.imports[plain][2], load)
+    return None
+
+
+def contracts(path, wanted):
+    """The contracts of the public functions, and the file's imports."""
+    imports, aliases, texts = {}, {}, []
+    with open(path, encoding="utf-8") as file:
+        source = file.read()
+    for line in source.split("\n"):
+        take_import(line, imports, aliases)
+    for found in re.finditer(r"^\s*(pub )?(?:extern \"C\" )?fn (\w+).*?^\s*\{$", source, re.M | re.S):
+        public, name = found.group(1), found.group(2)
+        if (wanted is None and public) or (wanted and name in wanted):
+            texts += re.findall(r"ensures \{(.*)\}", found.group(0))
+    return texts, imports, aliases
+
+
+class Contracts:
+    owner = {}
+
+    def __init__(self, imports, aliases):
+        self.imports, self.aliases = imports, aliases
 
 
 def believed(roots):
-    """Each module that is reached, with its lines. What `declared` brings is an enum or a struct of the code."""
-    found, waiting = {}, list(roots)
+    """All files that are looked at, and the definitions that the calls and the roots reach."""
+    modules = {}
+
+    def load(crate, name):
+        if (crate, name) not in modules:
+            modules[crate, name] = Module(crate, name)
+        return modules[crate, name]
+
+    waiting, reached = list(roots), set()
+    for path, wanted in CALLS.items():
+        texts, imports, aliases = contracts(path, wanted)
+        for text in texts:
+            waiting += targets(text, None, Contracts(imports, aliases), load)
     while waiting:
-        crate, module = waiting.pop()
-        if (crate, module) in found or module == "declared":
+        found = waiting.pop()
+        if found is None or found in reached:
             continue
-        with open(path_of(crate, module), encoding="utf-8") as file:
-            source = file.read()
-        found[crate, module] = counted(source)
-        waiting += [(other, name) for other, name in IMPORT.findall(source)]
-    return found
+        reached.add(found)
+        crate, name, definition = found
+        module = load(crate, name)
+        for line in module.lines[definition]:
+            waiting += targets(line, (crate, name), module, load)
+    return modules, reached
+
+
+def lines_of(modules, reached):
+    return sum(len(modules[crate, name].lines[definition]) for crate, name, definition in reached)
 
 
 def main():
-    if len(sys.argv) != 1:
+    if sys.argv[1:] not in ([], ["--unread"]):
         sys.exit(__doc__)
-    found = believed(ROOTS)
-    for (crate, module), lines in sorted(found.items()):
-        print(f"{lines:5}  {crate}/specs/{module}")
-    print(f"{sum(found.values()):5}  in all")
+    modules, reached = believed(PROMISE_3)
+    for (crate, name), module in sorted(modules.items()):
+        here = [definition for definition in module.lines if (crate, name, definition) in reached]
+        if not here:
+            continue
+        print(f"{lines_of(modules, [(crate, name, definition) for definition in here]):5}  {crate}/specs/{name}")
+        if sys.argv[1:]:
+            for definition in module.lines:
+                if definition not in here:
+                    print(f"          not reached: {definition}")
+    total = lines_of(modules, reached)
+    print(f"{total:5}  in all")
+    more = lines_of(*believed(PROMISE_3 + OTHER_LANGUAGES)) - total
+    print(f"{more:5}  more for promise 3 in the preprocessor's words")
 
 
 if __name__ == "__main__":
