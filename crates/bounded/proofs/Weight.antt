@@ -1,6 +1,6 @@
 -- The weight of commands: no less than what they write, whatever the settings and the state, up to a level. Entering a level weighs too, so that a
 -- weight bounds the levels as well. Assumes nothing.
-use mathlib.Core.Path.{_≡_, refl, _∙_, subst}
+use mathlib.Core.Path.{_≡_, refl}
 use mathlib.Core.Bool.{Bool, true, false, _&&_, cond}
 use mathlib.Core.List.{List, [], _∷_, _++_}
 use mathlib.Core.Option.{some}

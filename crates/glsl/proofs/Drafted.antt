@@ -1,7 +1,7 @@
 -- Drafted, then put: a printer that starts at the front with a fresh state leaves its pen as far on as the definition's text is long, whatever the
 -- room, and where the text fits it stands at the front of the room; so a draft measures it, and a draft that it fits can be copied. Assumes nothing.
 use mathlib.Core.Path.{_≡_, refl, sym, ap, subst, _∙_}
-use mathlib.Core.List.{List, [], _∷_, _++_}
+use mathlib.Core.List.{List, _++_}
 use Prim.Native.Nat.{ℕ, _<_, _≤_}
 use native.Mathlib.Nat.{zero-add}
 use native.Mathlib.Omega.{arith}

@@ -1,12 +1,12 @@
 -- THE theorem: for records that are accepted as an expression, the walk's answer is the definition's. Assumes nothing.
 use mathlib.Core.Path.{_≡_, refl, sym, _∙_, ap, subst}
-use mathlib.Core.Bool.{Bool, true, false, _||_, cond, or-false}
+use mathlib.Core.Bool.{Bool, true, false, _||_, cond}
 use mathlib.Core.List.{List, [], _∷_}
 use Prim.Native.Nat.{ℕ, zero, suc, _+_, _-_, _<_, _≤_}
 use native.Mathlib.Omega.{arith}
 use native.Mathlib.Nat.{zero-add}
 use lib.Dec.{eqb}
-use lib.ListN.{getD, drop}
+use lib.ListN.{getD}
 use borrow.Author.Tests.{eqb-true, le-ltb}
 use Rattle.records.specs.declared.Record.{Record}
 use Rattle.records.specs.Record.{recordAt, recordCount}
@@ -17,16 +17,14 @@ use Rattle.accept.specs.Check.{each, node, childrenOf, check, most-records}
 use Rattle.accept.proofs.Accepted.{bind-next, node-next, node-deep, no-fault-variant}
 use Rattle.accepted.proofs.Each.{each-record}
 use Rattle.accepted.proofs.Sizes.{few-records}
-use Rattle.text.specs.Tree.{Expr}
-use Rattle.text.specs.Reading.{Read, Item, first, items, from, itemAt, itemOf, exprOf, expr, binaryOp}
+use Rattle.text.specs.Reading.{Item, first, from, itemAt, expr, binaryOp}
 use Rattle.text.specs.Joined.{joins, joins-right, joined, joinedAnswer}
-use Rattle.text.proofs.At.{from-in, from-drop}
+use Rattle.text.proofs.At.{from-drop}
 use Rattle.formed.proofs.Kind.{rec}
-use Rattle.formed.proofs.Formed.{node-reads, expr-size}
+use Rattle.formed.proofs.Formed.{node-reads}
 use Rattle.joined.specs.declared.Head.{Head}
 use Rattle.joined.specs.Stack.{State, walk, bareSign, joinsAt, anyJoined, additive}
 use Rattle.joined.proofs.Heads.{head-at}
-use Rattle.text.proofs.ByKind.{either}
 use Rattle.joined.proofs.Pairs.{tested}
 use Rattle.joined.proofs.Stacked.{before, before-in, node-stack}
 

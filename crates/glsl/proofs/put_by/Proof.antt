@@ -1,7 +1,6 @@
 -- `glsl::put_by` meets its contract: drafted, and then, where it fits the room, copied from a draft that is long enough, or written again. Assumes nothing.
 use mathlib.Core.Path.{sym}
 use native.Mathlib.Omega.{arith}
-use lib.ListN.{length}
 use lib.Seq.{length-take-le}
 use Rattle.glsl.specs.Root.{rootReader, rootShow}
 use Rattle.glsl.proofs.Drafted.{not-put, copied, rewritten}
