@@ -20,10 +20,11 @@ use settings::Settings;
 use settings::Whitespace;
 use word_table::rows::Words;
 
-// Where the next byte goes, the record to be read next, and the state of the line layout.
+// The record to be read next, where the next byte goes, and the state of the line layout. (In this order they take 16 bytes, and else 24: a pen goes into and out of
+// every printer, through memory.)
 pub struct Pen {
-    pub at: u32,
     pub next: usize,
+    pub at: u32,
     pub state: FormattingState,
 }
 

@@ -33,18 +33,10 @@ same-answer m n i k both neither = go (leb m n) refl
     go false e = sym (le-ltb i k (neither (leb-false _ _ e)))
 
 module _ (bs : List ℕ) (i : ℕ) where
-  -- a record stands at i exactly when its 12 bytes do
+  -- where a record stands, its 12 bytes do
   pub bytes-stand : i < recordCount bs → 12 * i + 12 ≤ length bs
   unfolding recordCount
   bytes-stand h = omega arith
-
-  pub record-stands : 12 * i + 12 ≤ length bs → i < recordCount bs
-  unfolding recordCount
-  record-stands h = omega arith
-
-  pub none-stands : length bs < 12 * i + 12 → recordCount bs ≤ i
-  unfolding recordCount
-  none-stands h = omega arith
 
   -- what an answer of `stands` says
   pub if-stands : {b : Bool} → b ≡ ltb i (recordCount bs) → b ≡ true → i < recordCount bs

@@ -21,14 +21,11 @@ pub fn whole_records(records: &[u8]) -> usize
     records.len() / 12
 }
 
-// Does a whole record stand at i? By a product, since a division at each record costs time; the first test keeps the product below 2^64.
+// Does a whole record stand at i?
 pub fn stands(records: &[u8], i: usize) -> bool
     ensures { λ r. ⌜ r ≡ ltb i (recordCount (now (records .entry))) ⌝ }
 {
-    if 1000000000000000000 <= i {
-        return false;
-    }
-    12 * i + 12 <= records.len()
+    i < whole_records(records)
 }
 
 // A byte, for sums of 16 bits.

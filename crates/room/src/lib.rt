@@ -1,11 +1,14 @@
 // Bytes in a lent room: laid all or not at all.
 ghost use mathlib.Core.Path.{_≡_};
 ghost use mathlib.Core.List.{[], _∷_, _++_};
-ghost use Prim.Native.Nat.{_+_, _≤_};
+ghost use Prim.Native.Nat.{_+_, _≤_, _<_};
 ghost use lib.ListN.{length, replicate};
 ghost use lib.Seq.{sets};
 ghost use lib.Dec.{leb};
 ghost use Rattle.room.specs.Room.{laid};
+
+// How many bytes are few: the loop over them has this constant length, so that it compiles to none.
+const FEW: usize = 8;
 
 // One byte, if it fits.
 pub fn store(room: &mut [u8], at: u32, byte: u8)
@@ -28,8 +31,33 @@ pub fn fits(size: usize, at: u32, n: usize) -> bool
     n <= size - place
 }
 
+// The index i, or the last.
+fn or_last(i: usize, last: usize) -> usize
+    ensures { λ r. ⌜ (r ≤ last) × (i ≤ last → r ≡ i) ⌝ }
+{
+    if i < last {
+        return i;
+    }
+    last
+}
+
+// The bytes of `src` from `at` on, where they are few and known to fit: the last is stored again and again, instead of a branch on the length, which cannot be
+// foreseen.
+fn copy_few(room: &mut [u8], at: usize, src: &[u8])
+    requires { ⌜ (at + length (now src) ≤ length (now room)) × (0 < length (now src)) × (length (now src) ≤ 8) ⌝ }
+    ensures { λ r. ⌜ now (room .exit) ≡ sets (now (room .entry)) at (now (src .entry)) ⌝ }
+{
+    let last = src.len() - 1;
+    let mut i: usize = 0;
+    while i < FEW {
+        let k = or_last(i, last);
+        room[at + k] = src[k];
+        i += 1;
+    }
+}
+
 // The bytes of `src` from `at` on, where they are known to fit.
-pub fn copy(room: &mut [u8], at: usize, src: &[u8])
+fn copy_many(room: &mut [u8], at: usize, src: &[u8])
     requires { ⌜ at + length (now src) ≤ length (now room) ⌝ }
     ensures { λ r. ⌜ now (room .exit) ≡ sets (now (room .entry)) at (now (src .entry)) ⌝ }
 {
@@ -38,6 +66,21 @@ pub fn copy(room: &mut [u8], at: usize, src: &[u8])
         room[at + j] = src[j];
         j += 1;
     }
+}
+
+// The bytes of `src` from `at` on, where they are known to fit. Most tokens have few.
+pub fn copy(room: &mut [u8], at: usize, src: &[u8])
+    requires { ⌜ at + length (now src) ≤ length (now room) ⌝ }
+    ensures { λ r. ⌜ now (room .exit) ≡ sets (now (room .entry)) at (now (src .entry)) ⌝ }
+{
+    if FEW < src.len() {
+        copy_many(room, at, src);
+        return;
+    }
+    if src.len() == 0 {
+        return;
+    }
+    copy_few(room, at, src)
 }
 
 // n times a byte from `at` on, where they are known to fit.

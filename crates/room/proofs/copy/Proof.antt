@@ -1,62 +1,43 @@
-use Rattle.room.proofs.Loops.{stored, stored-all, next-of}
-use lib.ListN.{length, drop, length-set, drop-of-length-le}
-use native.Mathlib.Nat.{add-zero}
--- `copy` meets its contract: what is left to store from here on is all of it from the start. Assumes nothing.
-use lib.Seq.{sets}
-use mathlib.Core.Path.{_≡_, refl}
-use Prim.Native.Nat.{_+_, _-_, _≤_}
+-- `copy` meets its contract: by either way, and no bytes are no change. Assumes nothing.
+use mathlib.Core.Path.{sym, ap}
 use native.Mathlib.Omega.{arith}
+use lib.ListN.{drop-of-length-le}
+use lib.Seq.{sets}
+use borrow.Author.Needs.{needs}
 use Rattle.room.proofs.copy.Statement.{statement}
 use Rattle.room.proofs.copy.Tie as tie
 
-abbrev Inv-loop : tie.InvT-loop
-Inv-loop room₀ at src j₀ room j = (sets room (at + j) (drop j src) ≡ sets room₀ at src) × (length room ≡ length room₀) × (j ≤ length src)
+copy-many-requires : tie.Need-copy-many-requires
+copy-many-requires c κs = search needs
 
-abbrev μ-loop : tie.MeasureT-loop
-μ-loop room₀ at src j₀ room j = length src - j
+same-length : tie.Need-same-length
+same-length c = search needs
 
-loop-holds : tie.Need-loop-holds Inv-loop μ-loop
-loop-holds c = (rw (add-zero (c .args .at)) refl, refl, omega arith)
+returns : tie.Need-returns
+returns c = search needs
 
-shared-slice-read-room : tie.Need-shared-slice-read-room Inv-loop μ-loop
-shared-slice-read-room c = omega arith
+returns-2 : tie.Need-returns-2
+returns-2 c =
+    let a = c .before .before .before .before .args in
+    sym (ap (sets (a .room .now) (a .at)) (drop-of-length-le (a .src .now) {i = 0} (omega (arith, c .if2 .taken))))
 
-add-room : tie.Need-add-room Inv-loop μ-loop
-add-room c = omega arith
+copy-few-requires : tie.Need-copy-few-requires
+copy-few-requires c κs = search needs
 
-slice-write-room : tie.Need-slice-write-room Inv-loop μ-loop
-slice-write-room c = omega arith
+same-length-2 : tie.Need-same-length-2
+same-length-2 c = search needs
 
-add-j : tie.Need-add-j Inv-loop μ-loop
-add-j c = omega arith
-
-loop-less : tie.Need-loop-less Inv-loop μ-loop
-loop-less c = omega arith
-
-loop-again : tie.Need-loop-again Inv-loop μ-loop
-loop-again c =
-    let j = c .before .before .loop .j in
-    let src = c .before .before .before .args .src .now in
-    (stored _ (c .before .before .before .args .at) j _ _ (drop j src) (next-of src j (omega arith)) (c .before .before .loop .inv .0), simp length-set (c .before .before .loop .inv .1), omega arith)
-
-same-length : tie.Need-same-length Inv-loop μ-loop
-same-length c = c .before .loop .inv .1
-
-returns : tie.Need-returns Inv-loop μ-loop
-returns c = stored-all _ (c .before .before .args .at) (c .before .loop .j) _ (drop-of-length-le (c .before .before .args .src .now) {i = c .before .loop .j} (omega arith)) (c .before .loop .inv .0)
+returns-3 : tie.Need-returns-3
+returns-3 c = search needs
 
 pub copy-spec : {M : Type 1} → statement M
 copy-spec =
     tie.close
     (tie.spec
-    Inv-loop
-    μ-loop
-    loop-holds
-    shared-slice-read-room
-    add-room
-    slice-write-room
-    add-j
-    loop-less
-    loop-again
+    copy-many-requires
     same-length
-    returns)
+    returns
+    returns-2
+    copy-few-requires
+    same-length-2
+    returns-3)
