@@ -18,9 +18,10 @@ use Rattle.text.specs.Whole.{unitText, exprText}
 use Rattle.pen.specs.Free.{Free}
 use Rattle.bounded.proofs.Narrow.{narrow-read}
 use Rattle.bounded.proofs.Free.{unit-free, expr-free}
-use Rattle.glsl.specs.declared.Root.{Root}
-use Rattle.glsl.specs.declared.Root.the-variants as Root
-use Rattle.glsl.specs.Root.{rootClass, rootText, rootCommands, start, value, printOutcome}
+use Rattle.draft.specs.declared.Root.{Root}
+use Rattle.draft.specs.declared.Root.the-variants as Root
+use Rattle.draft.specs.Root.{rootCommands, start}
+use Rattle.glsl.specs.Root.{rootClass, rootText, value, printOutcome}
 use Rattle.glsl.proofs.Outcome.{outcome-small}
 
 -- the text by the settings that the bytes say

@@ -1,4 +1,3 @@
-pub mod Drafted
 pub mod Outcome
 pub mod Accepted
 pub mod Question

@@ -2,12 +2,13 @@
 -- nothing.
 use mathlib.Core.Path.{_≡_, refl, sym, ap, subst, _∙_}
 use mathlib.Core.Bool.{Bool, true, false, cond}
-use mathlib.Core.List.{List}
+use mathlib.Core.List.{List, _++_}
 use Prim.Native.Nat.{ℕ, _<_, _≤_, _^_}
 use native.Mathlib.Omega.{arith}
 use lib.Dec.{leb}
 use lib.ListN.{length, take, drop}
 use lib.Seq.{take-at}
+use borrow.Author.Tests.{le-leb, lt-leb}
 use Rattle.settings.specs.declared.Settings.{Settings}
 use Rattle.settings.specs.declared.SettingsRead.{SettingsRead}
 use Rattle.settings.specs.declared.SettingsRead.the-variants as Settings
@@ -17,10 +18,33 @@ use Rattle.accept.specs.declared.Checked.{Checked}
 use Rattle.accept.specs.declared.Checked.the-variants as Check
 use Rattle.accept.specs.Refusal.{checkedPlace}
 use Rattle.accept.specs.Check.{most-records}
+use Rattle.draft.specs.declared.Fit.{Fit}
+use Rattle.draft.specs.declared.Fit.the-variants.{Written, TooLong}
+use Rattle.draft.specs.Put.{Puts}
 use Rattle.glsl.specs.declared.Printed.{Printed}
 use Rattle.glsl.specs.declared.Printed.the-variants.{Text, Refused}
 use Rattle.glsl.specs.Printed.{fitted, outcome, roomAfter, Prints, front}
 use Rattle.glsl.specs.Root.{writtenLength, value}
+
+-- the answer of a print, by that of its text being put
+abbrev pub answer : Fit → Printed
+answer (Written n) = Text n
+answer (TooLong n) = Refused Why.RoomTooSmall n
+
+-- an answer and a room, by the outcome
+module _ {t room room′ : List ℕ} {o : Printed} where
+  -- a refusal leaves the room as it was
+  pub refused : (x : Refusal) (p : ℕ) → o ≡ Refused x p → room′ ≡ room → Prints o t room room′ (Refused x p)
+  refused x p e same = record { answered = sym e; left = same ∙ sym (ap (λ (z : Printed). roomAfter z t room) e) }
+
+  printed : (n : ℕ) → o ≡ Text n → room′ ≡ t ++ drop n room → Prints o t room room′ (Text n)
+  printed n e stands = record { answered = sym e; left = stands ∙ sym (ap (λ (z : Printed). roomAfter z t room) e) }
+
+-- a text that was put, where it fits
+put-fitted : (t room : List ℕ) {room′ : List ℕ} (a : Fit) → Puts t room room′ a → Prints (fitted t room) t room room′ (answer a)
+unfolding Puts fitted
+put-fitted t room (Written n) (long, fits, stands) = printed n (simp (sym long, le-leb n (length room) fits)) stands
+put-fitted t room (TooLong n) (long, short, same) = refused Why.RoomTooSmall n (simp (sym long, lt-leb n (length room) short)) same
 
 module _ (r : SettingsRead) (c : Checked) (t room : List ℕ) where
   pub settings-refused : r ≡ Settings.Refused → outcome r c t room ≡ Refused Why.SettingsOutOfRange 0
@@ -36,10 +60,11 @@ module _ (r : SettingsRead) (c : Checked) (t room : List ℕ) where
   accepted s m e f = ap (λ (y : SettingsRead). outcome y c t room) e ∙ ap (λ (y : Checked). outcome (Settings.Read s) y t room) f
 
   -- a text, put where settings and records were accepted
-  pub accepted-put : (s : Settings) (m : ℕ) {t′ room′ : List ℕ} {o : Printed} → r ≡ Settings.Read s → c ≡ Check.Next m → t′ ≡ t → Prints (fitted t′ room) t′ room room′ o
-      → Prints (outcome r c t room) t room room′ o
-  accepted-put s m {room′ = room′} {o = o} e f same a =
-      subst (λ (x : Printed). Prints x t room room′ o) (sym (accepted s m e f)) (subst (λ (x : List ℕ). Prints (fitted x room) x room room′ o) same a)
+  pub accepted-put : (s : Settings) (m : ℕ) (a b : Fit) {t′ room′ : List ℕ} → r ≡ Settings.Read s → c ≡ Check.Next m → t′ ≡ t → Puts t′ room room′ a → a ≡ b
+      → Prints (outcome r c t room) t room room′ (answer b)
+  accepted-put s m a b {room′ = room′} e f same put which =
+      subst (λ (x : Printed). Prints x t room room′ (answer b)) (sym (accepted s m e f))
+      (put-fitted t room b (subst (Puts t room room′) which (subst (λ (x : List ℕ). Puts x room room′ a) same put)))
 
 -- no number of an outcome has more than 32 bits
 fitted-value : (t room : List ℕ) → value (fitted t room) ≡ length t

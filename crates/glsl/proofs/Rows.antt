@@ -16,8 +16,8 @@ use Rattle.glsl.specs.declared.Printed.{Printed}
 use Rattle.glsl.specs.declared.Printed.the-variants.{Text, Refused}
 use Rattle.glsl.specs.declared.Whether.{Whether}
 use Rattle.glsl.specs.declared.Whether.the-variants.{No, Yes}
-use Rattle.glsl.specs.declared.Root.{Root}
-use Rattle.glsl.specs.declared.Root.the-variants.{Unit, Expr}
+use Rattle.draft.specs.declared.Root.{Root}
+use Rattle.draft.specs.declared.Root.the-variants.{Unit, Expr}
 use Rattle.glsl.specs.Root.{rootText, printOutcome}
 use Rattle.glsl.specs.Printed.{fitted, outcome, roomAfter, front}
 use Rattle.glsl.specs.Joined.{whetherJoined, joinedOutcome}

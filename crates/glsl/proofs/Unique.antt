@@ -11,8 +11,8 @@ use Rattle.accepted.proofs.Unique.{number-tells, number-not-zero}
 use Rattle.glsl.specs.declared.Printed.{Printed}
 use Rattle.glsl.specs.declared.Printed.the-variants.{Text, Refused}
 use Rattle.glsl.specs.declared.Whether.{Whether}
-use Rattle.glsl.specs.declared.Root.{Root}
-use Rattle.glsl.specs.declared.Root.the-variants as Root
+use Rattle.draft.specs.declared.Root.{Root}
+use Rattle.draft.specs.declared.Root.the-variants as Root
 use Rattle.glsl.specs.Root.{rootText, value, printOutcome}
 use Rattle.glsl.specs.Printed.{Prints, refusalNumber, refusalPlace, front, roomAfter, printedBits}
 use Rattle.glsl.specs.Joined.{joinedOutcome, joinedBits}

@@ -1,52 +1,22 @@
 // The public calls (01, "Calls"), and the C functions over them. (The call that hands out a name is `records::name`.)
 ghost use mathlib.Core.Path.{_≡_};
 ghost use Prim.Native.Nat.{_<_, _^_};
-ghost use Rattle.word_table.specs.Table as Table;
-ghost use Rattle.settings.specs.State.{fresh};
 ghost use Rattle.accept.specs.Check.{check};
-ghost use Rattle.text.specs.Pen.{text};
 ghost use Rattle.text.specs.Whole.{unitText, exprText};
-ghost use Rattle.pen.specs.Free.{Free};
-ghost use Rattle.leaves.specs.Shown.{Shows};
-ghost use Rattle.glsl.specs.Root.{rootClass, rootText, rootReader, rootShow, rootCommands, start, writtenLength, value, printOutcome};
-ghost use Rattle.glsl.specs.Printed.{fitted, roomAfter, Prints, front, refusalNumber, refusalPlace, printedBits, unitOutcome, exprOutcome};
+ghost use Rattle.glsl.specs.Root.{rootClass, rootText, writtenLength, value, printOutcome};
+ghost use Rattle.glsl.specs.Printed.{roomAfter, Prints, front, refusalNumber, refusalPlace, printedBits, unitOutcome, exprOutcome};
 ghost use Rattle.glsl.specs.Joined.{joinedOutcome, joinedPlace, joinedBits};
 use accept::Checked;
 use accept::Refusal;
-use pen::Pen;
+use draft::Fit;
+use draft::Root;
 use settings::Settings;
 use settings::SettingsRead;
-use word_table::rows::Words;
-
-// A draft has 8 bytes for each record, 4,096 at most: longer texts are rare. It is zeroed at each call, so a tree of up to 512 records (6,144 bytes) has a
-// short one.
-const FEW: usize = 6144;
-
-const SHORT: usize = 4096;
-
-const LONG: usize = 32768;
-
-// What is printed. The functions within take it, so that each is written and proved once.
-enum Root {
-    Unit,
-    Expr,
-}
 
 // The answer of a print: the length of its text, or the refusal with its place. specs/Printed.antt gives 01's number of each case.
 pub enum Printed {
     Text(usize),
     Refused(Refusal, usize),
-}
-
-// Where every print starts.
-fn start(s: Settings) -> Pen
-    ensures { λ r. ⌜ r ≡ start ⌝ }
-{
-    Pen {
-        at: 0,
-        next: 0,
-        state: s.fresh_state(),
-    }
 }
 
 // The record check of what is printed.
@@ -59,67 +29,7 @@ fn check_root(root: Root, records: &[u8], names: &[u8]) -> Checked
     }
 }
 
-// The printer of what is printed.
-fn show_root(
-    root: Root,
-    s: Settings,
-    t: &Words,
-    records: &[u8],
-    names: &[u8],
-    room: &mut [u8],
-    pen: Pen,
-) -> Pen
-    requires { ⌜ now t ≡ Table.table ⌝ }
-    ensures { λ r. ⌜ Shows (rootShow root s) (rootReader root) s (now (records .entry)) (now (names .entry)) (now (room .entry)) pen (now (room .exit)) r ⌝ }
-{
-    match root {
-        Root::Unit => show_unit::show_translation_unit(s, t, records, names, room, pen),
-        Root::Expr => show_expr::show_expr(s, t, records, names, room, pen),
-    }
-}
-
-// Writes the text into the draft, which also measures it. A text that fits the room is copied there, or written again if it is longer than the draft:
-// a refusal alters no byte, so nothing can be written into the room before. That no cap of the pen is met is what accepted records and settings give.
-fn put_by(
-    root: Root,
-    s: Settings,
-    records: &[u8],
-    names: &[u8],
-    draft: &mut [u8],
-    room: &mut [u8],
-) -> Printed
-    requires { ⌜ Free s (rootCommands root s (now records) (now names)) start ⌝ }
-    ensures { λ r. let t = text s (rootCommands root s (now (records .entry)) (now (names .entry))) fresh in ⌜ Prints (fitted t (now (room .entry))) t (now (room .entry)) (now (room .exit)) r ⌝ }
-{
-    let t = word_table::table();
-    let pen = start(s);
-    let drafted = show_root(root, s, &t, records, names, draft, pen);
-    let n = drafted.at as usize;
-    if room.len() < n {
-        return Printed::Refused(Refusal::RoomTooSmall, n);
-    }
-    if draft.len() < n {
-        show_root(root, s, &t, records, names, room, pen);
-        return Printed::Text(n);
-    }
-    room::copy(room, 0, &draft[..n]);
-    Printed::Text(n)
-}
-
-// The text in the room, where it fits, by a draft on the stack.
-fn put(root: Root, s: Settings, records: &[u8], names: &[u8], room: &mut [u8]) -> Printed
-    requires { ⌜ Free s (rootCommands root s (now records) (now names)) start ⌝ }
-    ensures { λ r. let t = text s (rootCommands root s (now (records .entry)) (now (names .entry))) fresh in ⌜ Prints (fitted t (now (room .entry))) t (now (room .entry)) (now (room .exit)) r ⌝ }
-{
-    if records.len() <= FEW {
-        let mut short = [0u8; SHORT];
-        return put_by(root, s, records, names, &mut short, room);
-    }
-    let mut long = [0u8; LONG];
-    put_by(root, s, records, names, &mut long, room)
-}
-
-// The text is at the front of the room, or nothing is altered.
+// The text is at the front of the room, or nothing is altered. A text that is too long for the room is the last refusal, and the length that it needs is its place.
 fn print_into(root: Root, settings: &[u8], records: &[u8], names: &[u8], room: &mut [u8]) -> Printed
     ensures { λ r. ⌜ Prints (printOutcome root (now (settings .entry)) (now (records .entry)) (now (names .entry)) (now (room .entry))) (rootText root (now (settings .entry)) (now (records .entry)) (now (names .entry))) (now (room .entry)) (now (room .exit)) r ⌝ }
 {
@@ -127,7 +37,10 @@ fn print_into(root: Root, settings: &[u8], records: &[u8], names: &[u8], room: &
         SettingsRead::Refused => Printed::Refused(Refusal::SettingsOutOfRange, 0),
         SettingsRead::Read(s) => match check_root(root, records, names) {
             Checked::Refused(x, p) => Printed::Refused(x, p),
-            Checked::Next(_) => put(root, s, records, names, room),
+            Checked::Next(_) => match draft::put(root, s, records, names, room) {
+                Fit::Written(length) => Printed::Text(length),
+                Fit::TooLong(length) => Printed::Refused(Refusal::RoomTooSmall, length),
+            },
         },
     }
 }

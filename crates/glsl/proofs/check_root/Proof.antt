@@ -1,7 +1,7 @@
 -- `glsl::check_root` meets its contract: by the case. Assumes nothing.
 use mathlib.Core.Path.{sym, ap, _∙_}
 use Rattle.accept.specs.Check.{check}
-use Rattle.glsl.specs.declared.Root.{Root}
+use Rattle.draft.specs.declared.Root.{Root}
 use Rattle.glsl.specs.Root.{rootClass}
 use borrow.Author.Needs.{needs}
 use Rattle.glsl.proofs.check_root.Statement.{statement}

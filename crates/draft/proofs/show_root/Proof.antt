@@ -1,8 +1,8 @@
--- `glsl::show_root` meets its contract: by the case. Assumes nothing.
+-- `draft::show_root` meets its contract: by the case. Assumes nothing.
 use Rattle.leaves.proofs.Shown.{shown-length}
 use borrow.Author.Needs.{needs}
-use Rattle.glsl.proofs.show_root.Statement.{statement}
-use Rattle.glsl.proofs.show_root.Tie as tie
+use Rattle.draft.proofs.show_root.Statement.{statement}
+use Rattle.draft.proofs.show_root.Tie as tie
 
 enum-told : tie.Need-enum-told
 enum-told c = search needs

@@ -7,11 +7,8 @@ use native.Mathlib.Nat.{zero-add}
 use native.Mathlib.Omega.{arith}
 use lib.ListN.{length, take, drop}
 use lib.Seq.{sets, sets-eq, take-append-seam}
-use borrow.Author.Tests.{le-leb, lt-leb}
 use Rattle.settings.specs.declared.Settings.{Settings}
 use Rattle.settings.specs.State.{fresh}
-use Rattle.accept.specs.declared.Refusal.{Refusal}
-use Rattle.accept.specs.declared.Refusal.the-variants.{RoomTooSmall}
 use Rattle.text.specs.Command.{Command}
 use Rattle.text.specs.Pen.{text}
 use Rattle.text.specs.Reading.{Reader, from}
@@ -19,29 +16,9 @@ use Rattle.pen.specs.declared.Pen.{Pen}
 use Rattle.pen.specs.Free.{Free}
 use Rattle.pen.proofs.Written.{ran-length, pen-text, room-text}
 use Rattle.leaves.specs.Shown.{Shows}
-use Rattle.glsl.specs.declared.Printed.{Printed}
-use Rattle.glsl.specs.declared.Printed.the-variants.{Text, Refused}
-use Rattle.glsl.specs.Printed.{fitted, roomAfter, Prints}
-use Rattle.glsl.specs.Root.{start}
-
--- an answer and a room, by the outcome
-module _ {text room : List ℕ} {o : Printed} where
-  -- a refusal leaves the room as it was
-  pub refused : {room′ : List ℕ} (x : Refusal) (p : ℕ) → o ≡ Refused x p → room′ ≡ room → Prints o text room room′ (Refused x p)
-  refused x p e same = record { answered = sym e; left = same ∙ sym (ap (λ (z : Printed). roomAfter z text room) e) }
-
-  pub printed : {room′ : List ℕ} (n : ℕ) → o ≡ Text n → room′ ≡ text ++ drop n room → Prints o text room room′ (Text n)
-  printed n e stands = record { answered = sym e; left = stands ∙ sym (ap (λ (z : Printed). roomAfter z text room) e) }
-
--- the answer by the test of the room
-module _ (text room : List ℕ) where
-  fits : length text ≤ length room → fitted text room ≡ Text (length text)
-  unfolding fitted
-  fits h = simp (le-leb (length text) (length room) h)
-
-  too-small : length room < length text → fitted text room ≡ Refused RoomTooSmall (length text)
-  unfolding fitted
-  too-small h = simp (lt-leb (length text) (length room) h)
+use Rattle.draft.specs.declared.Fit.the-variants.{Written, TooLong}
+use Rattle.draft.specs.Root.{start}
+use Rattle.draft.specs.Put.{Puts}
 
 -- what is shown from the first record on
 module _ {A : Type 0} (show : A → List Command) (q : Reader A) (s : Settings) (records names : List ℕ) where
@@ -70,20 +47,22 @@ module _ {A : Type 0} (show : A → List Command) (q : Reader A) (s : Settings) 
       long : p .at ≡ length shown
       long = measured drafted
 
-      put : {room′ : List ℕ} → p .at ≤ length room → room′ ≡ shown ++ drop (length shown) room → Prints (fitted shown room) shown room room′ (Text (p .at))
-      put h there = printed (p .at) (fits shown room (omega (arith, long)) ∙ ap Text (sym long)) (there ∙ ap (λ (n : ℕ). shown ++ drop n room) (sym long))
+      put : {room′ : List ℕ} → p .at ≤ length room → room′ ≡ shown ++ drop (length shown) room → Puts shown room room′ (Written (p .at))
+      unfolding Puts
+      put h there = (long, h, there ∙ ap (λ (n : ℕ). shown ++ drop n room) (sym long))
 
       -- the front of a draft that is long enough is the text
       front-drafted : p .at ≤ length draft′ → take (p .at) draft′ ≡ shown
       front-drafted h =
           ap (λ (n : ℕ). take n draft′) long ∙ ap (take (length shown)) (stands drafted (omega (arith, long, ran-length (drafted .ran)))) ∙ take-append-seam shown (drop (length shown) draft)
 
-      pub not-put : length room < p .at → Prints (fitted shown room) shown room room (Refused RoomTooSmall (p .at))
-      not-put h = refused RoomTooSmall (p .at) (too-small shown room (omega (arith, long)) ∙ ap (Refused RoomTooSmall) (sym long)) refl
+      pub not-put : length room < p .at → Puts shown room room (TooLong (p .at))
+      unfolding Puts
+      not-put h = (long, h, refl)
 
-      pub copied : {room′ : List ℕ} → p .at ≤ length room → p .at ≤ length draft′ → room′ ≡ sets room 0 (take (p .at) draft′) → Prints (fitted shown room) shown room room′ (Text (p .at))
+      pub copied : {room′ : List ℕ} → p .at ≤ length room → p .at ≤ length draft′ → room′ ≡ sets room 0 (take (p .at) draft′) → Puts shown room room′ (Written (p .at))
       copied h h′ copying = put h (copying ∙ ap (sets room 0) (front-drafted h′) ∙ front-laid room (omega (arith, long)))
 
-      pub rewritten : {room′ : List ℕ} {p′ : Pen} → p .at ≤ length room → Shows show q s records names room p₀ room′ p′ → Prints (fitted shown room) shown room room′ (Text (p .at))
+      pub rewritten : {room′ : List ℕ} {p′ : Pen} → p .at ≤ length room → Shows show q s records names room p₀ room′ p′ → Puts shown room room′ (Written (p .at))
       rewritten {room′ = room′} {p′ = p′} h writing =
           put h (stands (subst (λ (x : Pen). Shows show q s records names room x room′ p′) began writing) (omega (arith, long)))

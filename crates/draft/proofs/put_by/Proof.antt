@@ -1,12 +1,12 @@
--- `glsl::put_by` meets its contract: drafted, and then, where it fits the room, copied from a draft that is long enough, or written again. Assumes nothing.
+-- `draft::put_by` meets its contract: drafted, and then, where it fits the room, copied from a draft that is long enough, or written again. Assumes nothing.
 use mathlib.Core.Path.{sym}
 use native.Mathlib.Omega.{arith}
 use lib.Seq.{length-take-le}
-use Rattle.glsl.specs.Root.{rootReader, rootShow}
-use Rattle.glsl.proofs.Drafted.{not-put, copied, rewritten}
+use Rattle.draft.specs.Root.{rootReader, rootShow}
+use Rattle.draft.proofs.Drafted.{not-put, copied, rewritten}
 use borrow.Author.Needs.{needs}
-use Rattle.glsl.proofs.put_by.Statement.{statement}
-use Rattle.glsl.proofs.put_by.Tie as tie
+use Rattle.draft.proofs.put_by.Statement.{statement}
+use Rattle.draft.proofs.put_by.Tie as tie
 
 table-requires : tie.Need-table-requires
 table-requires c κs = search needs

@@ -1,9 +1,9 @@
--- `glsl::start` meets its contract. Assumes nothing.
+-- `draft::start` meets its contract. Assumes nothing.
 use mathlib.Core.Path.{ap}
 use Rattle.settings.specs.declared.FormattingState.{FormattingState}
 use borrow.Author.Needs.{needs}
-use Rattle.glsl.proofs.start.Statement.{statement}
-use Rattle.glsl.proofs.start.Tie as tie
+use Rattle.draft.proofs.start.Statement.{statement}
+use Rattle.draft.proofs.start.Tie as tie
 
 fresh-state-requires : tie.Need-fresh-state-requires
 fresh-state-requires c κs = search needs
