@@ -39,7 +39,7 @@ module _ {A : Type 0} (show : A → List Command) (q : Reader A) (s : Settings) 
     stands : {room room′ : List ℕ} {p : Pen} → Shows show q s records names room start room′ p → length shown ≤ length room → room′ ≡ shown ++ drop (length shown) room
     stands {room = room} a h = room-text (a .ran) free (omega arith) ∙ front-laid room h
 
-    -- drafted, then, from the same start, refused, copied or written again
+    -- drafted, then, from the same start, too long, copied or written again
     module _ (room : List ℕ) {draft draft′ : List ℕ} {p₀ p : Pen} (began : p₀ ≡ start) (drafting : Shows show q s records names draft p₀ draft′ p) where
       drafted : Shows show q s records names draft start draft′ p
       drafted = subst (λ (x : Pen). Shows show q s records names draft x draft′ p) began drafting
