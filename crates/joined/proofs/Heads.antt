@@ -1,4 +1,4 @@
--- The head that the walk has before a record is the sign and the strength of the expression that is read there, for any records. Assumes nothing.
+-- The head that the walk has before a record is the sign and the precedence of the expression that is read there, for any records. Assumes nothing.
 use mathlib.Core.Path.{_≡_, refl, sym, _∙_, ap}
 use mathlib.Core.Bool.{Bool, true, false, cond}
 use mathlib.Core.List.{List}
@@ -20,7 +20,7 @@ use Rattle.joined.proofs.Signs.{unary-sign, sign, sign-callee, head}
 -- nothing binds below 0
 none-below : (h : Head) → bareSign h 0 ≡ 0
 unfolding bareSign
-none-below h = rw (le-ltb (h .strength) 0 (omega arith)) refl
+none-below h = rw (le-ltb (h .precedence) 0 (omega arith)) refl
 
 unary-variant : (v : ℕ) → unarySign v ≡ unary-sign (unaryOp v)
 unfolding unarySign unary-sign unaryOp
@@ -47,8 +47,8 @@ module _ (ns : List ℕ) (k v n a b : ℕ) (L : List Item) (type-first : first L
   row-of m f g = of-kind (λ k y. Headed (F k) y) L k m f g
 
   -- what begins with no sign and binds strongest
-  atom : {h : Head} {x : Read Expr} → head (x .tree) ≡ no-head → h ≡ record { sign = bareSign (head (expr L .tree)) 0; strength = 0 } → Headed h x
-  atom e q = record { is = q ∙ ap (λ (s : ℕ). record { sign = s; strength = 0 }) (none-below (head (expr L .tree))) ∙ sym e }
+  atom : {h : Head} {x : Read Expr} → head (x .tree) ≡ no-head → h ≡ record { sign = bareSign (head (expr L .tree)) 0; precedence = 0 } → Headed h x
+  atom e q = record { is = q ∙ ap (λ (s : ℕ). record { sign = s; precedence = 0 }) (none-below (head (expr L .tree))) ∙ sym e }
 
   -- a type begins with no sign
   call : sign (expr L .tree) ≡ sign-callee (callee L .tree)
@@ -68,12 +68,12 @@ module _ (ns : List ℕ) (k v n a b : ℕ) (L : List Item) (type-first : first L
       row-of 4 _ _ (atom refl refl) λ e4.
       row-of 5 _ _ (atom refl refl) λ e5.
       row-of 6 _ _ (atom refl refl) λ e6.
-      row-of 7 _ _ (record { is = ap (λ (s : ℕ). record { sign = s; strength = 3 }) (unary-variant v) }) λ e7.
+      row-of 7 _ _ (record { is = ap (λ (s : ℕ). record { sign = s; precedence = 3 }) (unary-variant v) }) λ e7.
       row-of 8 _ _ (record { is = refl }) λ e8.
       row-of 9 _ _ (record { is = refl }) λ e9.
       row-of 10 _ _ (record { is = refl }) λ e10.
       row-of 11 _ _ (record { is = refl }) λ e11.
-      row-of 12 _ _ (record { is = ap (λ (s : ℕ). record { sign = s; strength = 2 }) call }) λ e12.
+      row-of 12 _ _ (record { is = ap (λ (s : ℕ). record { sign = s; precedence = 2 }) call }) λ e12.
       row-of 13 _ _ (record { is = refl }) λ e13.
       row-of 14 _ _ (record { is = refl }) λ e14.
       row-of 15 _ _ (record { is = refl }) λ e15.

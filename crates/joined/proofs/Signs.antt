@@ -49,9 +49,9 @@ unary-sign UnaryOp.Minus = minus
 unary-sign UnaryOp.Not = 0
 unary-sign UnaryOp.Complement = 0
 
--- an operand that begins with sign s and is bare below a strength
+-- an operand that begins with sign s and is bare below a precedence
 abbrev pub bare : Expr → (s below : ℕ) → ℕ
-bare e s below = bareSign (record { sign = s; strength = precedence e }) below
+bare e s below = bareSign (record { sign = s; precedence = precedence e }) below
 
 unfoldable mutual
   pub sign : Expr → ℕ
@@ -78,7 +78,7 @@ unfoldable mutual
   sign-callee (FunIdentifier.OfExpr e) = sign e
 
 abbrev pub head : Expr → Head
-head e = record { sign = sign e; strength = precedence e }
+head e = record { sign = sign e; precedence = precedence e }
 
 -- a byte as a sign
 abbrev pub signByte : ℕ → ℕ
@@ -215,11 +215,11 @@ unfolding spell wordText
 bool-starts true = starts-token _ [] (code "t") (bytes "rue") refl refl
 bool-starts false = starts-token _ [] (code "f") (bytes "alse") refl refl
 
--- up to a strength is below the next
+-- up to a precedence is below the next
 up-to : (p n : ℕ) → leb p n ≡ ltb p (n + 1)
 up-to p n = same-answer p n p (n + 1) (λ h. omega arith) (λ h. omega arith)
 
--- an operand at the front: bare up to a strength, or below one
+-- an operand at the front: bare up to a precedence, or below one
 module _ (e : Expr) {s : ℕ} (n : ℕ) (h : Starts s (show-expr e)) where
   front-up-to : Starts (bare e s (n + 1)) (bare-if (leb (precedence e) n) (show-expr e))
   unfolding bareSign

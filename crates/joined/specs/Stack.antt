@@ -39,7 +39,7 @@ intSign a = cond (negative a) (code "-") 0
 
 -- an operand in parentheses begins with none
 unfoldable pub bareSign : Head → (below : ℕ) → ℕ
-bareSign h below = cond (ltb (h .strength) below) (h .sign) 0
+bareSign h below = cond (ltb (h .precedence) below) (h .sign) 0
 
 -- the first operand stands right behind the record
 unfoldable pub signOf : Record → (next : Head) → ℕ
@@ -49,7 +49,7 @@ signOf r next =
     (cond (eqb (r .kind) 12) (next .sign) (bareSign next (firstBelow (r .kind) (r .variant)))))
 
 unfoldable pub headOf : Record → (next : Head) → Head
-headOf r next = record { sign = signOf r next; strength = precedenceOf (r .kind) (r .variant) }
+headOf r next = record { sign = signOf r next; precedence = precedenceOf (r .kind) (r .variant) }
 
 -- a binary + (variant 14) or - (15), and its right operand's byte
 unfoldable pub joinsAt : Record → ℕ → Bool
@@ -69,7 +69,7 @@ pub record State : Type 0 where
   pub found : Bool
 
 abbrev pub no-head : Head
-no-head = record { sign = 0; strength = 0 }
+no-head = record { sign = 0; precedence = 0 }
 
 abbrev pub start : State
 start = record { head = no-head; stack = []; found = false }

@@ -14,7 +14,7 @@ use shapes::rows::Shapes;
 // How the text of an expression begins, and how strongly it binds.
 pub struct Head {
     pub sign: u8,
-    pub strength: u8,
+    pub precedence: u8,
 }
 
 const PLUS: u8 = 43;
@@ -75,7 +75,7 @@ fn int_sign(a: u32) -> u8
 fn bare_sign(operand: Head, below: u8) -> u8
     ensures { λ r. ⌜ r ≡ Stack.bareSign operand below ⌝ }
 {
-    if operand.strength < below {
+    if operand.precedence < below {
         return operand.sign;
     }
     0
@@ -99,7 +99,7 @@ fn head_of(r: Record, next: Head) -> Head
 {
     Head {
         sign: sign_of(r, next),
-        strength: precedence::of_expr(r.kind, r.variant),
+        precedence: precedence::of_expr(r.kind, r.variant),
     }
 }
 
@@ -169,7 +169,7 @@ fn walk(t: &Shapes, records: &[u8], stack: &mut [u8], n: usize) -> bool
     let mut found = false;
     let mut head = Head {
         sign: 0,
-        strength: 0,
+        precedence: 0,
     };
     let mut top = stack.len();
     let mut i = n;

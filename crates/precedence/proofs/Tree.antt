@@ -1,4 +1,4 @@
--- The strength that a record tells is its tree's precedence. Assumes nothing.
+-- The precedence that a record tells is its tree's precedence. Assumes nothing.
 use mathlib.Core.Path.{_≡_, refl}
 use mathlib.Core.Bool.{false, cond}
 use mathlib.Core.List.{List}
@@ -19,9 +19,9 @@ module _ (names : List ℕ) (r : Record) (L : List Item) where
   row-of : (m : ℕ) (f g : Reader Expr) → Binds m (f L) → (eqb (r .kind) m ≡ false → Binds (r .kind) (g L)) → Binds (r .kind) (cond (eqb (r .kind) m) f g L)
   row-of m f g = of-kind Binds L (r .kind) m f g
 
-  pub strength-at : Binds (r .kind) (exprOf names r L)
+  pub precedence-at : Binds (r .kind) (exprOf names r L)
   unfolding exprOf precedence precedenceOf
-  strength-at =
+  precedence-at =
       row-of 1 _ _ refl λ e1.
       row-of 2 _ _ refl λ e2.
       row-of 3 _ _ refl λ e3.

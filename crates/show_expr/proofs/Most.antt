@@ -132,8 +132,8 @@ module _ (names : List ℕ) (r : Record) (L : List Item) (v : ℕ) where
       go false k = rw (not-unary names r L k, and-false (eqb v 2 || eqb v 3), and-true (leb (precedence e) 3)) refl
 
 -- brackets, asked for by what is not bare
-pub bracketed : (e : Expr) (most strength : ℕ) → precedence e ≡ strength
-    → cond (ltb most strength) (a-symbol Symbol.left-paren) [] ++ show-expr e ++ cond (ltb most strength) (a-symbol Symbol.right-paren) [] ≡ operand most e
-bracketed e most strength h = split most strength
-    (λ k. rw (lt-ltb most strength k, h, lt-leb strength most k) refl)
-    (λ k. rw (le-ltb most strength k, h, le-leb strength most k) (append-nil (show-expr e)))
+pub bracketed : (e : Expr) (most q : ℕ) → precedence e ≡ q
+    → cond (ltb most q) (a-symbol Symbol.left-paren) [] ++ show-expr e ++ cond (ltb most q) (a-symbol Symbol.right-paren) [] ≡ operand most e
+bracketed e most q h = split most q
+    (λ k. rw (lt-ltb most q k, h, lt-leb q most k) refl)
+    (λ k. rw (le-ltb most q k, h, le-leb q most k) (append-nil (show-expr e)))

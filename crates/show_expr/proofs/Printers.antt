@@ -26,7 +26,7 @@ use Rattle.pen.specs.declared.Pen.{Pen}
 use Rattle.pen.specs.Promise.{Wrote, Ran}
 use Rattle.pen.proofs.Chain.{by-token, by-space}
 use Rattle.precedence.specs.Precedence.{precedenceOf}
-use Rattle.precedence.proofs.Tree.{strength-at}
+use Rattle.precedence.proofs.Tree.{precedence-at}
 use Rattle.leaves.specs.Shown.{past, Shown, Shows}
 use Rattle.leaves.specs.Operand.{mostUnder}
 use Rattle.leaves.specs.Qualifier.{qualifierWord}
@@ -55,10 +55,10 @@ sign-at rs ns i j v most m h =
     rw (h, m, ap (λ (x : Item). x .expr) (item-at rs ns i)) (under-sign ns (recordAt rs i) (from rs ns (i + 1)) v)
 
 -- how strongly the expression binds that is read where its record was read
-strength-here : (rs ns : List ℕ) (i j : ℕ) {k v q : ℕ} → i ≡ j → k ≡ recordAt rs i .kind → v ≡ recordAt rs i .variant → q ≡ precedenceOf k v → precedence (expr (from rs ns j) .tree) ≡ q
+precedence-here : (rs ns : List ℕ) (i j : ℕ) {k v q : ℕ} → i ≡ j → k ≡ recordAt rs i .kind → v ≡ recordAt rs i .variant → q ≡ precedenceOf k v → precedence (expr (from rs ns j) .tree) ≡ q
 unfolding itemOf
-strength-here rs ns i j h hk hv hq =
-    rw (sym h) (ap (λ (x : Item). precedence (x .expr .tree)) (item-at rs ns i) ∙ strength-at ns (recordAt rs i) (from rs ns (i + 1)) ∙ sym (rw (sym hk, sym hv) hq))
+precedence-here rs ns i j h hk hv hq =
+    rw (sym h) (ap (λ (x : Item). precedence (x .expr .tree)) (item-at rs ns i) ∙ precedence-at ns (recordAt rs i) (from rs ns (i + 1)) ∙ sym (rw (sym hk, sym hv) hq))
 
 -- a list that counts some is not empty
 some-types : (n : ℕ) → 0 < n → (L : List Item) → without-types (several n type TypeSpecifiers.no-types TypeSpecifiers.types L .tree) ≡ false
@@ -334,7 +334,7 @@ module _ (rs ns : List ℕ) {s : Settings} where
         in-brackets most {q = q} hk hv hq o a c =
             let i : p₀ .next ≡ p₂ .next = omega (arith, wrote o .next) in
             reads (operand most) expr rs ns (expr (from rs ns (p₂ .next))) (ap (λ (k : ℕ). expr (from rs ns k)) i)
-            (bracketed (expr (from rs ns (p₂ .next)) .tree) most q (strength-here rs ns (p₀ .next) (p₂ .next) i hk hv hq)) (omega arith) (wrote o thus a thus wrote c)
+            (bracketed (expr (from rs ns (p₂ .next)) .tree) most q (precedence-here rs ns (p₀ .next) (p₂ .next) i hk hv hq)) (omega arith) (wrote o thus a thus wrote c)
 
         pub layout-parts : (n : ℕ) {room₄ : List ℕ} {p₄ : Pen} → Ran s (a-word (qualifierWord 18)) room₀ p₀ room₂ p₂ → Wrote (bytes "(") room₂ p₂ room₃ p₃
             → Shows (λ is. show-layout-ids is true) (several n layout-id LayoutQualifier.no-ids LayoutQualifier.ids) s rs ns room₃ p₃ room₄ p₄ → Wrote (bytes ")") room₄ p₄ room₁ p₁

@@ -450,10 +450,10 @@ fn binary(
     requires { ⌜ now t ≡ Table.table ⌝ }
     ensures { λ r. ⌜ Shows show-expr (give (Expr.Binary (binaryOp v)) and Reading.expr and Reading.expr) s (now (records .entry)) (now (names .entry)) (now (room .entry)) pen (now (room .exit)) r ⌝ }
 {
-    let strength = precedence::of_binary_op(v);
-    let left = expr(s, t, records, names, room, pen, strength);
+    let precedence = precedence::of_binary_op(v);
+    let left = expr(s, t, records, names, room, pen, precedence);
     let op = leaves::show_binary_op(left, s, t, room, v);
-    expr(s, t, records, names, room, op, strength - 1)
+    expr(s, t, records, names, room, op, precedence - 1)
 }
 
 // In show_expr: Ternary.

@@ -54,7 +54,7 @@ rows : List Row
 rows =
     -- Unary at 3 or below, but for plus over plus and minus over minus
     row (minus (PostInc a)) "-a++" ∷ row (minus (plus a)) "-+a" ∷ row (minus (product a b)) "-(a*b)" ∷ row (minus (minus a)) "-(-a)" ∷ row (plus (plus a)) "+(+a)"
-    -- binary operators: left at the operator's strength or below, right below it
+    -- binary operators: left at the operator's precedence or below, right below it
     ∷ row (sum (sum a b) c) "a+b+c" ∷ row (sum (product a b) c) "a*b+c" ∷ row (product (sum a b) c) "(a+b)*c"
     ∷ row (sum a (product b c)) "a+b*c" ∷ row (sum a (sum b c)) "a+(b+c)" ∷ row (product a (sum b c)) "a*(b+c)"
     -- Ternary: condition below 15, middle always bare, else at 15 or below
