@@ -12,7 +12,7 @@ use Rattle.words.specs.Keyword.{typeKeywords, fixedWords}
 use Rattle.words.proofs.Search.{everyWord}
 use Rattle.text.specs.Token.Token.{name}
 use Rattle.lexis.specs.Keywords.{keywords, vulkan-keywords, reserved-words, listed-words, listed}
-use Rattle.lexis.specs.Number.{decimal-or-octal, hexadecimal-rest, hexadecimal, integer-constant, exponent-digits, signed-exponent, exponent, behind-whole, floating-constant, number-word}
+use Rattle.lexis.specs.Number.{decimal-or-octal, hexadecimal-rest, hexadecimal, integer-constant, sign, exponent-letter, exponent-digits, signed-exponent, exponent, behind-whole, floating-constant, number-word}
 use Rattle.lexis.specs.Glsl.{symbol-words, proper}
 
 numbers : List String
@@ -21,7 +21,7 @@ numbers =
     ∷ "1." ∷ ".5" ∷ "1.5" ∷ "08.5" ∷ "1.f" ∷ "1.5F" ∷ "1.5lf" ∷ ".5LF" ∷ "1e5" ∷ "08e1" ∷ "1.e-5f" ∷ "1.5E+30lf" ∷ ".0e0" ∷ []
 
 are-numbers : everyWord number-word numbers ≡ true
-unfolding everyWord numbers number-word integer-constant hexadecimal hexadecimal-rest decimal-or-octal floating-constant behind-whole exponent signed-exponent exponent-digits digits behindDigits all same oneOf digit
+unfolding everyWord numbers number-word integer-constant hexadecimal hexadecimal-rest decimal-or-octal floating-constant behind-whole exponent signed-exponent sign exponent-letter exponent-digits digits behindDigits all same oneOf digit
 are-numbers = refl
 
 -- a digit that is not octal, a suffix that is not there, an exponent without digits, a float without point and exponent, more than one point
@@ -30,7 +30,7 @@ no-numbers =
     "" ∷ "." ∷ "u" ∷ "08" ∷ "0x" ∷ "0xg" ∷ "1x2" ∷ "1uu" ∷ "1l" ∷ "1.5u" ∷ "1.5l" ∷ "1.5lF" ∷ "1e" ∷ "1e+" ∷ "1e+-5" ∷ "e5" ∷ ".e5" ∷ "1f" ∷ "1..5" ∷ "1.5.5" ∷ "1+5" ∷ "-1" ∷ []
 
 are-no-numbers : everyWord (λ w. not (number-word w)) no-numbers ≡ true
-unfolding everyWord no-numbers number-word integer-constant hexadecimal hexadecimal-rest decimal-or-octal floating-constant behind-whole exponent signed-exponent exponent-digits digits behindDigits all same oneOf digit
+unfolding everyWord no-numbers number-word integer-constant hexadecimal hexadecimal-rest decimal-or-octal floating-constant behind-whole exponent signed-exponent sign exponent-letter exponent-digits digits behindDigits all same oneOf digit
 are-no-numbers = refl
 
 -- names, and words that GLSL lists: a keyword that the printer writes and one that it does not, one of Vulkan's, a reserved one

@@ -15,9 +15,9 @@ use Rattle.decimal.specs.Decimal.{decimal, valueOf}
 use Rattle.decimal.proofs.Laws.{value-decimal}
 use Rattle.text.specs.Token.{Token, has, point, pointed, spell}
 use Rattle.text.specs.Token.Token.{int, uint, float, double}
-use Rattle.lexis.specs.Preprocessing.{exponent-letter, plain}
+use Rattle.lexis.specs.Preprocessing.{plain}
 use Rattle.lexis.specs.Division.{begins-with}
-use Rattle.lexis.specs.Number.{is-empty, integer-suffix, floating-suffix, decimal-or-octal, integer-constant, exponent, behind-whole, floating-constant, hexadecimal, number-word}
+use Rattle.lexis.specs.Number.{is-empty, exponent-letter, integer-suffix, floating-suffix, decimal-or-octal, integer-constant, exponent, behind-whole, floating-constant, hexadecimal, number-word}
 use Rattle.lexis.proofs.Tests.{both, or-left, or-right, and-both, clash, all-append, all-wider}
 use Rattle.lexis.proofs.Letters.{digit-range}
 use Rattle.lexis.proofs.Digits.{digits-front, behind-front, digits-cut, digits-all, decimal-digits, decimal-begins, begins-append, decimal-constant}

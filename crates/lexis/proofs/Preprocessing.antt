@@ -9,7 +9,8 @@ use borrow.Author.Tests.{not-true}
 use Rattle.words.specs.Letter.{digit, nameByte}
 use Rattle.words.specs.Form.{all}
 use Rattle.lexis.specs.Division.{begins-with}
-use Rattle.lexis.specs.Preprocessing.{plain, sign, exponent-letter, goes-on, opens-number, preprocessing-number}
+use Rattle.lexis.specs.Number.{sign, exponent-letter}
+use Rattle.lexis.specs.Preprocessing.{plain, goes-on, opens-number, preprocessing-number}
 use Rattle.lexis.proofs.Tests.{both, either, or-left, or-right, and-both}
 use Rattle.lexis.proofs.Letters.{digit-name-byte}
 

@@ -10,9 +10,9 @@ use borrow.Author.Tests.{eqb-true}
 use Rattle.words.specs.Letter.{between, digit, letter, nameByte}
 use Rattle.words.specs.Form.{all, digits, behindDigits}
 use Rattle.words.proofs.Search.{everyWord}
-use Rattle.lexis.specs.Preprocessing.{exponent-letter, goes-on, opens-number, plain, preprocessing-number, sign}
+use Rattle.lexis.specs.Preprocessing.{goes-on, opens-number, plain, preprocessing-number}
 use Rattle.lexis.specs.Division.{begins-with}
-use Rattle.lexis.specs.Number.{is-empty, hexadecimal-digit, integer-suffix, floating-suffix, decimal-or-octal, hexadecimal-rest, hexadecimal, integer-constant, exponent-digits, signed-exponent, exponent, behind-whole, floating-constant, number-word}
+use Rattle.lexis.specs.Number.{is-empty, sign, exponent-letter, hexadecimal-digit, integer-suffix, floating-suffix, decimal-or-octal, hexadecimal-rest, hexadecimal, integer-constant, exponent-digits, signed-exponent, exponent, behind-whole, floating-constant, number-word}
 use Rattle.lexis.proofs.Tests.{both, either, or-left, or-right, and-both, clash, passes, all-append, all-wider}
 use Rattle.lexis.proofs.Letters.{range, in-range}
 use Rattle.lexis.proofs.Digits.{digits-cut, digits-all, some-digits}

@@ -44,18 +44,24 @@ hexadecimal (z ∷ x ∷ h ∷ hs) = eqb z (code "0") && (eqb x (code "x") || eq
 unfoldable pub integer-constant : List ℕ → Bool
 integer-constant w = decimal-or-octal (digits w) && integer-suffix (behindDigits w) || hexadecimal w
 
+unfoldable pub sign : ℕ → Bool
+sign b = eqb b (code "+") || eqb b (code "-")
+
+unfoldable pub exponent-letter : ℕ → Bool
+exponent-letter b = eqb b (code "e") || eqb b (code "E")
+
 -- one digit or more and a suffix
 unfoldable pub exponent-digits : List ℕ → Bool
 exponent-digits s = not (is-empty (digits s)) && floating-suffix (behindDigits s)
 
 unfoldable pub signed-exponent : List ℕ → Bool
 signed-exponent [] = false
-signed-exponent (b ∷ bs) = cond (eqb b (code "+") || eqb b (code "-")) (exponent-digits bs) (exponent-digits (b ∷ bs))
+signed-exponent (b ∷ bs) = cond (sign b) (exponent-digits bs) (exponent-digits (b ∷ bs))
 
 -- an exponent-part and a suffix
 unfoldable pub exponent : List ℕ → Bool
 exponent [] = false
-exponent (b ∷ bs) = (eqb b (code "e") || eqb b (code "E")) && signed-exponent bs
+exponent (b ∷ bs) = exponent-letter b && signed-exponent bs
 
 -- behind the whole part: a point, digits before it or behind it, then perhaps an exponent; or an exponent
 unfoldable pub behind-whole : (some-digit : Bool) → List ℕ → Bool

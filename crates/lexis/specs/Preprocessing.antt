@@ -8,18 +8,13 @@ use Prim.Native.Char.{code}
 use lib.Dec.{eqb}
 use Rattle.words.specs.Letter.{digit, nameByte}
 use Rattle.words.specs.Form.{oneOf}
+use Rattle.lexis.specs.Number.{sign, exponent-letter}
 use Rattle.lexis.specs.Division.{begins-with}
 use Rattle.lexis.specs.Glsl.{identifier-word, symbol-words, glsl-word}
 
 -- a letter, a digit, an underscore or a point
 unfoldable pub plain : ℕ → Bool
 plain b = nameByte b || eqb b (code ".")
-
-unfoldable pub sign : ℕ → Bool
-sign b = eqb b (code "+") || eqb b (code "-")
-
-unfoldable pub exponent-letter : ℕ → Bool
-exponent-letter b = eqb b (code "e") || eqb b (code "E")
 
 -- may these bytes go on with a number? A sign may stand first where an e or E is before them.
 unfoldable pub goes-on : (behind-letter : Bool) → List ℕ → Bool
