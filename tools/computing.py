@@ -6,7 +6,7 @@ import sys
 
 # (crate, module): the definitions that a worked text goes through
 MODULES = [
-    ("words", "Word"), ("words", "Symbol"), ("words", "Keyword"), ("decimal", "Decimal"), ("records", "Record"), ("settings", "Settings"),
+    ("words", "Word"), ("words", "Symbol"), ("words", "Keyword"), ("words", "Form"), ("decimal", "Decimal"), ("records", "Record"), ("settings", "Settings"),
     ("text", "Token"), ("text", "Asked"), ("text", "Pen"), ("text", "Text"), ("text", "Reading"), ("text", "Visible"), ("text", "Whole"),
     ("text", "Joined"),
 ]

@@ -1,18 +1,18 @@
 -- What an operand may bind at most and be bare: the tests of 000 show_expr as one number. Assumes nothing.
-use mathlib.Core.Path.{_≡_, refl, sym, ap, _∙_}
-use mathlib.Core.Bool.{Bool, true, false, not, _&&_, _||_, or-false, and-true, and-false, cond}
+use mathlib.Core.Path.{_≡_, refl, sym}
+use mathlib.Core.Bool.{Bool, true, false, not, _&&_, _||_, and-true, and-false, cond}
 use mathlib.Core.List.{List, [], _++_, append-nil}
-use mathlib.Core.Option.{none}
 use Prim.Native.Nat.{ℕ, zero, suc, _+_, _-_, _≤_}
 use native.Mathlib.Omega.{arith}
 use lib.Dec.{leb, ltb, eqb}
 use borrow.Author.Tests.{lt-ltb, le-ltb, le-leb, lt-leb, ne-eqb, eqb-true}
-use Rattle.words.specs.Symbol.{Symbol}
+use Rattle.words.specs.Symbol.{Symbol, symbolText}
+use Rattle.words.specs.Form.{same, oneOf}
 use Rattle.records.specs.declared.Record.{Record}
 use Rattle.records.proofs.Laws.{split, same-answer}
 use Rattle.text.specs.Command.{Command}
-use Rattle.text.specs.Tree.{BinaryOp, Expr}
-use Rattle.text.specs.Text.{precedence, binary-precedence, unary-precedence, a-symbol, bare-if, show-expr, is-add, is-minus, doubled, doubles, unary-op, binary-op}
+use Rattle.text.specs.Tree.{UnaryOp, BinaryOp, Expr}
+use Rattle.text.specs.Text.{precedence, binary-precedence, unary-precedence, a-symbol, bare-if, show-expr, unary-symbol, doubled, doubles, binary-op}
 use Rattle.text.specs.Reading.{Item, Read, Reader, unaryOp, exprOf, expr}
 use Rattle.text.proofs.ByKind.{either}
 use Rattle.leaves.specs.Operand.{mostUnder}
@@ -71,43 +71,33 @@ any-bare e = le-leb (precedence e) 17 (weakest e)
 pub below : (n q : ℕ) → 1 ≤ q → leb n (q - 1) ≡ ltb n q
 below n q h = same-answer n (q - 1) n q (λ k. omega arith) (λ k. omega arith)
 
--- plus and minus by variant
-is-add-at : (v : ℕ) → is-add (unaryOp v) ≡ eqb v 2
-unfolding is-add unaryOp
-is-add-at zero = refl
-is-add-at (suc zero) = refl
-is-add-at (suc (suc zero)) = refl
-is-add-at (suc (suc (suc zero))) = refl
-is-add-at (suc (suc (suc (suc zero)))) = refl
-is-add-at (suc (suc (suc (suc (suc v))))) = sym (ne-eqb (suc (suc (suc (suc (suc v))))) 2 (λ e. omega arith))
+-- by the variant of an operator, of which the last stands for all beyond it
+by-variant : (P : ℕ → Type 0) → P 0 → P 1 → P 2 → P 3 → P 4 → ((n : ℕ) → P (suc (suc (suc (suc (suc n)))))) → (v : ℕ) → P v
+by-variant P a b c d e f zero = a
+by-variant P a b c d e f (suc zero) = b
+by-variant P a b c d e f (suc (suc zero)) = c
+by-variant P a b c d e f (suc (suc (suc zero))) = d
+by-variant P a b c d e f (suc (suc (suc (suc zero)))) = e
+by-variant P a b c d e f (suc (suc (suc (suc (suc n))))) = f n
 
-is-minus-at : (v : ℕ) → is-minus (unaryOp v) ≡ eqb v 3
-unfolding is-minus unaryOp
-is-minus-at zero = refl
-is-minus-at (suc zero) = refl
-is-minus-at (suc (suc zero)) = refl
-is-minus-at (suc (suc (suc zero))) = refl
-is-minus-at (suc (suc (suc (suc zero)))) = refl
-is-minus-at (suc (suc (suc (suc (suc v))))) = sym (ne-eqb (suc (suc (suc (suc (suc v))))) 3 (λ e. omega arith))
-
--- the same sign twice
+-- two operators spell ++ or -- where they are the same, plus or minus (000's own test)
 doubled-at : (v w : ℕ) → doubled (unaryOp v) (unaryOp w) ≡ (eqb v 2 || eqb v 3) && eqb w v
-unfolding doubled
-doubled-at v w = rw (is-add-at v, is-add-at w, is-minus-at v, is-minus-at w) (go (eqb v 2) (eqb v 3) refl refl)
-  where
-    go : (a b : Bool) → eqb v 2 ≡ a → eqb v 3 ≡ b → a && eqb w 2 || b && eqb w 3 ≡ (a || b) && eqb w v
-    go true true e f = absurd (omega (arith, eqb-true v 2 e, eqb-true v 3 f))
-    go true false e f = or-false (eqb w 2) ∙ ap (eqb w) (sym (eqb-true v 2 e))
-    go false true e f = ap (eqb w) (sym (eqb-true v 3 f))
-    go false false e f = refl
+unfolding doubled oneOf same symbolText unary-symbol unaryOp
+doubled-at = by-variant (λ v. (w : ℕ) → doubled (unaryOp v) (unaryOp w) ≡ (eqb v 2 || eqb v 3) && eqb w v)
+    (by-variant (λ w. doubled UnaryOp.Inc (unaryOp w) ≡ false) refl refl refl refl refl (λ n. refl))
+    (by-variant (λ w. doubled UnaryOp.Dec (unaryOp w) ≡ false) refl refl refl refl refl (λ n. refl))
+    (by-variant (λ w. doubled UnaryOp.Add (unaryOp w) ≡ eqb w 2) refl refl refl refl refl (λ n. sym (ne-eqb (suc (suc (suc (suc (suc n))))) 2 (λ e. omega arith))))
+    (by-variant (λ w. doubled UnaryOp.Minus (unaryOp w) ≡ eqb w 3) refl refl refl refl refl (λ n. sym (ne-eqb (suc (suc (suc (suc (suc n))))) 3 (λ e. omega arith))))
+    (by-variant (λ w. doubled UnaryOp.Not (unaryOp w) ≡ false) refl refl refl refl refl (λ n. refl))
+    (λ n. rw (ne-eqb (suc (suc (suc (suc (suc n))))) 2 (λ e. omega arith), ne-eqb (suc (suc (suc (suc (suc n))))) 3 (λ e. omega arith)) (by-variant (λ w. doubled UnaryOp.Complement (unaryOp w) ≡ false) refl refl refl refl refl (λ n. refl)))
 
 -- no other kind has a unary operator
-not-unary : (names : List ℕ) (r : Record) (L : List Item) → eqb (r .kind) 7 ≡ false → unary-op (exprOf names r L .tree) ≡ none
-unfolding exprOf unary-op
-not-unary names r L e = rw e (or 1 _ _ refl (or 2 _ _ refl (or 3 _ _ refl (or 4 _ _ refl (or 5 _ _ refl (or 6 _ _ refl (or 8 _ _ refl (or 9 _ _ refl (or 10 _ _ refl (or 11 _ _ refl (or 12 _ _ refl (or 13 _ _ refl (or 14 _ _ refl (or 15 _ _ refl (or 16 _ _ refl refl)))))))))))))))
+not-unary : (names : List ℕ) (r : Record) (L : List Item) (op : UnaryOp) → eqb (r .kind) 7 ≡ false → doubles op (exprOf names r L .tree) ≡ false
+unfolding exprOf doubles
+not-unary names r L op e = rw e (or 1 _ _ refl (or 2 _ _ refl (or 3 _ _ refl (or 4 _ _ refl (or 5 _ _ refl (or 6 _ _ refl (or 8 _ _ refl (or 9 _ _ refl (or 10 _ _ refl (or 11 _ _ refl (or 12 _ _ refl (or 13 _ _ refl (or 14 _ _ refl (or 15 _ _ refl (or 16 _ _ refl refl)))))))))))))))
   where
-    or : (k : ℕ) (f g : Reader Expr) → unary-op (f L .tree) ≡ none → unary-op (g L .tree) ≡ none → unary-op (cond (eqb (r .kind) k) f g L .tree) ≡ none
-    or k = either (λ (x : Read Expr). unary-op (x .tree) ≡ none) L (eqb (r .kind) k)
+    or : (k : ℕ) (f g : Reader Expr) → doubles op (f L .tree) ≡ false → doubles op (g L .tree) ≡ false → doubles op (cond (eqb (r .kind) k) f g L .tree) ≡ false
+    or k = either (λ (x : Read Expr). doubles op (x .tree) ≡ false) L (eqb (r .kind) k)
 
 -- a unary operator's operand: bare if it binds at 3 or more strongly and has not the same sign
 module _ (names : List ℕ) (r : Record) (L : List Item) (v : ℕ) where
@@ -122,14 +112,14 @@ module _ (names : List ℕ) (r : Record) (L : List Item) (v : ℕ) where
   by-sign true = refl
   by-sign false = refl
 
-  pub under-sign : leb (precedence e) (mostUnder v r) ≡ leb (precedence e) unary-precedence && not (doubles (unaryOp v) (unary-op e))
-  unfolding mostUnder precedence unary-op doubles
+  pub under-sign : leb (precedence e) (mostUnder v r) ≡ leb (precedence e) unary-precedence && not (doubles (unaryOp v) e)
+  unfolding mostUnder precedence doubles
   under-sign = go (eqb (r .kind) 7) refl
     where
       go : (b : Bool) → eqb (r .kind) 7 ≡ b
-          → leb (precedence e) (cond ((eqb v 2 || eqb v 3) && b && eqb (r .variant) v) 2 3) ≡ leb (precedence e) 3 && not (doubles (unaryOp v) (unary-op e))
+          → leb (precedence e) (cond ((eqb v 2 || eqb v 3) && b && eqb (r .variant) v) 2 3) ≡ leb (precedence e) 3 && not (doubles (unaryOp v) e)
       go true k = rw (signed (eqb-true (r .kind) 7 k), doubled-at v (r .variant), and-true (eqb v 2 || eqb v 3)) (by-sign ((eqb v 2 || eqb v 3) && eqb (r .variant) v))
-      go false k = rw (not-unary names r L k, and-false (eqb v 2 || eqb v 3), and-true (leb (precedence e) 3)) refl
+      go false k = rw (not-unary names r L (unaryOp v) k, and-false (eqb v 2 || eqb v 3), and-true (leb (precedence e) 3)) refl
 
 -- brackets, asked for by what is not bare
 pub bracketed : (e : Expr) (most q : ℕ) → precedence e ≡ q

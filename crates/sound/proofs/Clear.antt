@@ -11,10 +11,11 @@ use Rattle.words.specs.Bytes.{bytes}
 use Rattle.words.specs.Letter.{letter, digit, nameByte}
 use Rattle.words.specs.Symbol.{Symbol, symbolText}
 use Rattle.words.specs.Symbol.Symbol.{dot, inc-op, dec-op, tilde}
+use Rattle.words.specs.Form.{same, oneOf}
 use Rattle.text.specs.Token.{Token, has}
 use Rattle.text.specs.Token.Token.{name, int, uint, float, double, word, symbol}
 use Rattle.text.specs.Tree.{UnaryOp, Expr}
-use Rattle.text.specs.Text.{unary-symbol, doubled, is-add, is-minus}
+use Rattle.text.specs.Text.{unary-symbol, doubled}
 use Rattle.lexis.specs.Division.{begins-with}
 use Rattle.lexis.proofs.Symbols.{space-behind}
 use Rattle.lexis.proofs.Laws.{symbol-lengthens, lengthens}
@@ -142,7 +143,7 @@ field-clear bs h = clear-of (λ b. nameByte b && not (digit b)) dot bs refl h
 
 -- a unary operator stands clear behind another but for those that 01's rules keep apart: doubled ones have parentheses, mixed ones are unsound
 pub sign-clear : (u v : UnaryOp) (e : Expr) (bs : List ℕ) → doubled u v ≡ false → Unmixed u (Expr.Unary v e) → Clear (symbol (unary-symbol u)) (bytes (symbolText (unary-symbol v)) ++ bs)
-unfolding lengthens has symbol-lengthens symbolText unary-symbol doubled is-add is-minus
+unfolding lengthens has symbol-lengthens symbolText unary-symbol doubled oneOf same
 sign-clear UnaryOp.Inc v e bs d m = never-longer inc-op (bytes (symbolText (unary-symbol v)) ++ bs) refl
 sign-clear UnaryOp.Dec v e bs d m = never-longer dec-op (bytes (symbolText (unary-symbol v)) ++ bs) refl
 sign-clear UnaryOp.Complement v e bs d m = never-longer tilde (bytes (symbolText (unary-symbol v)) ++ bs) refl

@@ -19,7 +19,7 @@ use Rattle.text.specs.Tree.TypeSpecifierNonArray.{no-base, Keyword, TypeName, S
 use Rattle.text.specs.Tree.ArraySpecifier.{no-dimensions, dimensions}
 use Rattle.text.specs.Tree.ArraySpecifierDimension.{no-dimension, Unsized, ExplicitlySized}
 use Rattle.text.specs.Visible.{tokensOf}
-use Rattle.text.specs.Text.{bare-if, precedence, unary-op, doubles, a-symbol, show-expr, show-exprs, show-function-identifier, show-type-specifier, show-type-specifier-non-array, show-array-spec, show-dimension, show-int}
+use Rattle.text.specs.Text.{bare-if, precedence, doubles, a-symbol, show-expr, show-exprs, show-function-identifier, show-type-specifier, show-type-specifier-non-array, show-array-spec, show-dimension, show-int}
 use Rattle.grammar.specs.Last.{last-expr, last-dimension}
 use Rattle.grammar.specs.Strength.{under}
 use Rattle.grammar.specs.Chapter9.{Derives, Value}
@@ -52,9 +52,9 @@ at-most e n s = operand-shown (show-expr e) e n (leb (precedence e) n) (leb-true
 below : (e : Expr) (n : ℕ) → Shown e → Shows (level n) (bare-if (ltb (precedence e) (suc n)) (show-expr e)) (expr e)
 below e n s = operand-shown (show-expr e) e n (ltb (precedence e) (suc n)) (λ q. omega (arith, ltb-true (precedence e) (suc n) q)) s
 
-under-sign : (o : UnaryOp) (e : Expr) → Shown e → Shows (level 3) (bare-if (leb (precedence e) 3 && not (doubles o (unary-op e))) (show-expr e)) (expr e)
-under-sign o e s = operand-shown (show-expr e) e 3 (leb (precedence e) 3 && not (doubles o (unary-op e)))
-    (λ q. leb-true (precedence e) 3 (both (leb (precedence e) 3) (not (doubles o (unary-op e))) .0 q .0)) s
+under-sign : (o : UnaryOp) (e : Expr) → Shown e → Shows (level 3) (bare-if (leb (precedence e) 3 && not (doubles o e)) (show-expr e)) (expr e)
+under-sign o e s = operand-shown (show-expr e) e 3 (leb (precedence e) 3 && not (doubles o e))
+    (λ q. leb-true (precedence e) 3 (both (leb (precedence e) 3) (not (doubles o e)) .0 q .0)) s
 
 argument-shown : (e : Expr) → precedence e ≤ 16 → Shown e → Derives assignment-expression (tokensOf (show-expr e)) (expr e)
 unfolding level

@@ -31,7 +31,7 @@ use Rattle.text.specs.Tree.TypeSpecifier.{no-type, type}
 use Rattle.text.specs.Tree.TypeSpecifierNonArray.{no-base, Keyword, TypeName, Struct}
 use Rattle.text.specs.Tree.ArraySpecifier.{no-dimensions, dimensions}
 use Rattle.text.specs.Tree.ArraySpecifierDimension.{no-dimension, Unsized, ExplicitlySized}
-use Rattle.text.specs.Text.{postfix-precedence, unary-precedence, ternary-precedence, assignment-precedence, comma-precedence, binary-precedence, precedence, unary-symbol, binary-symbol, assignment-symbol, doubles, unary-op, bool-word, a-token, bare-if, show-expr, show-exprs, show-function-identifier, show-type-specifier, show-type-specifier-non-array, show-array-spec, show-dimension}
+use Rattle.text.specs.Text.{postfix-precedence, unary-precedence, ternary-precedence, assignment-precedence, comma-precedence, binary-precedence, precedence, unary-symbol, binary-symbol, assignment-symbol, doubles, bool-word, a-token, bare-if, show-expr, show-exprs, show-function-identifier, show-type-specifier, show-type-specifier-non-array, show-array-spec, show-dimension}
 use Rattle.text.specs.Visible.{tokensOf}
 use Rattle.formed.specs.Formed.{Formed-expr, Formed-exprs, Formed-callee, Formed-type, Formed-base, Formed-dimensions, Formed-dimension}
 use Rattle.grammar.proofs.Ladder.{ladder}
@@ -132,8 +132,8 @@ module _ (listed : List ℕ → Bool) {L : List ℕ → Token → Type 0} {W : L
   opening-clear op e f t h x rest = unary-clear op (text s (show-expr e) x ++ rest) (before (opens-expr e f t h) x rest)
 
   -- what a unary operator's operand, without parentheses, begins with does not make the operator longer
-  bare-clear : (op : UnaryOp) (e : Expr) → Formed-expr e → Sound listed e → Unmixed op e → doubles op (unary-op e) ≡ false → precedence e ≤ 3 → (x : FormattingState) (rest : List ℕ) → Clear (Token.symbol (unary-symbol op)) (text s (show-expr e) x ++ rest)
-  unfolding precedence unary-op doubles show-expr text written spell Sound
+  bare-clear : (op : UnaryOp) (e : Expr) → Formed-expr e → Sound listed e → Unmixed op e → doubles op e ≡ false → precedence e ≤ 3 → (x : FormattingState) (rest : List ℕ) → Clear (Token.symbol (unary-symbol op)) (text s (show-expr e) x ++ rest)
+  unfolding precedence doubles show-expr text written spell Sound
   bare-clear op no-expr f t m d h x rest = absurd t
   bare-clear op (Variable n) f t m d h x rest = opening-clear op (Variable n) f t (omega arith) x rest
   bare-clear op (IntConst n) f t m d h x rest = opening-clear op (IntConst n) f t (omega arith) x rest
@@ -152,11 +152,11 @@ module _ (listed : List ℕ → Bool) {L : List ℕ → Token → Type 0} {W : L
   bare-clear op (PostDec e) f t m d h x rest = opening-clear op (PostDec e) f t (omega arith) x rest
   bare-clear op (Comma a b) f t m d h x rest = absurd (omega arith)
 
-  operand-clear : (op : UnaryOp) (e : Expr) → Formed-expr e → Sound listed e → Unmixed op e → (bare : Bool) → leb (precedence e) 3 && not (doubles op (unary-op e)) ≡ bare → (x : FormattingState) (rest : List ℕ)
+  operand-clear : (op : UnaryOp) (e : Expr) → Formed-expr e → Sound listed e → Unmixed op e → (bare : Bool) → leb (precedence e) 3 && not (doubles op e) ≡ bare → (x : FormattingState) (rest : List ℕ)
       → Clear (Token.symbol (unary-symbol op)) (text s (bare-if bare (show-expr e)) x ++ rest)
   operand-clear op e f t m true h x rest =
-      let g = both (leb (precedence e) 3) (not (doubles op (unary-op e))) h
-      in bare-clear op e f t m (not-true (doubles op (unary-op e)) (g .1)) (leb-true (precedence e) 3 (g .0)) x rest
+      let g = both (leb (precedence e) 3) (not (doubles op e)) h
+      in bare-clear op e f t m (not-true (doubles op e) (g .1)) (leb-true (precedence e) 3 (g .0)) x rest
   operand-clear op e f t m false h x rest = unary-clear op (text s (bare-if false (show-expr e)) x ++ rest) (before (operand-begins {s = s} {cs = show-expr e} false (λ q. false-true q)) x rest)
 
   -- a field's name behind its dot
@@ -188,7 +188,7 @@ module _ (listed : List ℕ → Bool) {L : List ℕ → Token → Type 0} {W : L
     part (BoolConst b) f t = wider (λ u q. rw q tt) (a-part law (Token.word (bool-word b)) (ok .bools b))
     part (FloatConst x) f t = wider (λ u q. rw q refl) (a-part law (Token.float x) (ok .floats x f))
     part (DoubleConst x) f t = wider (λ u q. rw q refl) (a-part law (Token.double x) (ok .doubles x f))
-    part (Unary op e) f t = then (a-symbol-part law (ok .symbols) (unary-symbol op)) (λ u q x rest. rw q (operand-clear op e f t.1 t.0 (leb (precedence e) unary-precedence && not (doubles op (unary-op e))) refl x rest)) (bare (leb (precedence e) unary-precedence && not (doubles op (unary-op e))) (part e f t.1))
+    part (Unary op e) f t = then (a-symbol-part law (ok .symbols) (unary-symbol op)) (λ u q x rest. rw q (operand-clear op e f t.1 t.0 (leb (precedence e) unary-precedence && not (doubles op e)) refl x rest)) (bare (leb (precedence e) unary-precedence && not (doubles op e)) (part e f t.1))
     part (Binary op l r) f t = rw (loose op) (spaced (binary-symbol op) (bare (leb (precedence l) (binary-precedence op)) (part l f.0 t.0)) (bare (ltb (precedence r) (binary-precedence op)) (part r f.1 t.1)))
     part (Ternary c a b) f t = spaced colon (spaced question (bare (ltb (precedence c) ternary-precedence) (part c f.0 t.0)) (part a f.1 t.1)) (bare (leb (precedence b) ternary-precedence) (part b f.2 t.2))
     part (Assignment op v e) f t = spaced (assignment-symbol op) (bare (ltb (precedence v) assignment-precedence) (part v f.0 t.1)) (bare (leb (precedence e) assignment-precedence) (part e f.1 t.2))

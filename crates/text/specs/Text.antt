@@ -1,12 +1,14 @@
 -- The text of each tree, as commands: the printers of 000. A definition `show-..` is 000's function of that name; where a name is ours, a comment says
 -- which function it is a part of. What is used stands above what uses it. Assumes nothing.
-use mathlib.Core.Bool.{Bool, true, false, not, _&&_, _||_, cond}
+use mathlib.Core.Bool.{Bool, true, false, not, _&&_, cond}
 use mathlib.Core.List.{List, [], _∷_, _++_}
 use mathlib.Core.Option.{Option, none, some}
 use Prim.Native.Nat.{ℕ}
 use lib.Dec.{leb, ltb}
+use Rattle.words.specs.Bytes.{bytes}
 use Rattle.words.specs.Word.{Word, StorageQualifier}
-use Rattle.words.specs.Symbol.{Symbol}
+use Rattle.words.specs.Symbol.{Symbol, symbolText}
+use Rattle.words.specs.Form.{oneOf}
 use Rattle.decimal.specs.Decimal.{negative, magnitude}
 use Rattle.text.specs.Token.{Token}
 use Rattle.text.specs.Command.{Command, word, symbol, enter-compound-statement-block, enter-external-declaration, enter-block, exit-block, enter-collapsed-compound-statement, exit-collapsed-compound-statement, enter-initializer-list, end-initializer-list, enter-case-label, write-else, write-struct-field-separator, write-list-separator, write-for-statement-separator, write-declaration-terminator, write-binary-op, write-statement-terminator, write-function-definition-terminator, write-statement-opening-parenthesis, write-statement-closing-parenthesis}
@@ -149,49 +151,29 @@ abbrev pub bool-word : Bool → Word
 bool-word true = Word.true
 bool-word false = Word.false
 
-unfoldable pub is-add : UnaryOp → Bool
-is-add UnaryOp.Inc = false
-is-add UnaryOp.Dec = false
-is-add UnaryOp.Add = true
-is-add UnaryOp.Minus = false
-is-add UnaryOp.Not = false
-is-add UnaryOp.Complement = false
-
-unfoldable pub is-minus : UnaryOp → Bool
-is-minus UnaryOp.Inc = false
-is-minus UnaryOp.Dec = false
-is-minus UnaryOp.Add = false
-is-minus UnaryOp.Minus = true
-is-minus UnaryOp.Not = false
-is-minus UnaryOp.Complement = false
-
 -- in show_expr: plus over plus and minus over minus, which would read as ++ and --
 unfoldable pub doubled : UnaryOp → UnaryOp → Bool
-doubled op o = is-add op && is-add o || is-minus op && is-minus o
+doubled op o = oneOf ("++" ∷ "--" ∷ []) (bytes (symbolText (unary-symbol op)) ++ bytes (symbolText (unary-symbol o)))
 
--- the operator of a unary expression
-unfoldable pub unary-op : Expr → Option UnaryOp
-unary-op Expr.no-expr = none
-unary-op (Expr.Variable i) = none
-unary-op (Expr.IntConst n) = none
-unary-op (Expr.UIntConst n) = none
-unary-op (Expr.BoolConst b) = none
-unary-op (Expr.FloatConst t) = none
-unary-op (Expr.DoubleConst t) = none
-unary-op (Expr.Unary op e) = some op
-unary-op (Expr.Binary op l r) = none
-unary-op (Expr.Ternary c s e) = none
-unary-op (Expr.Assignment op v e) = none
-unary-op (Expr.Bracket e a) = none
-unary-op (Expr.FunCall f es) = none
-unary-op (Expr.Dot i e) = none
-unary-op (Expr.PostInc e) = none
-unary-op (Expr.PostDec e) = none
-unary-op (Expr.Comma a b) = none
-
-unfoldable pub doubles : UnaryOp → Option UnaryOp → Bool
-doubles op none = false
-doubles op (some o) = doubled op o
+-- an operator over an expression: only a Unary has one that it can double
+unfoldable pub doubles : UnaryOp → Expr → Bool
+doubles op Expr.no-expr = false
+doubles op (Expr.Variable i) = false
+doubles op (Expr.IntConst n) = false
+doubles op (Expr.UIntConst n) = false
+doubles op (Expr.BoolConst b) = false
+doubles op (Expr.FloatConst t) = false
+doubles op (Expr.DoubleConst t) = false
+doubles op (Expr.Unary o e) = doubled op o
+doubles op (Expr.Binary o l r) = false
+doubles op (Expr.Ternary c s e) = false
+doubles op (Expr.Assignment o v e) = false
+doubles op (Expr.Bracket e a) = false
+doubles op (Expr.FunCall f es) = false
+doubles op (Expr.Dot i e) = false
+doubles op (Expr.PostInc e) = false
+doubles op (Expr.PostDec e) = false
+doubles op (Expr.Comma a b) = false
 
 -- what is there or not: a struct's name, a block's identifier, an expression, a condition
 unfoldable pub optional : {A : Type 0} → (A → List Command) → Option A → List Command
@@ -288,7 +270,7 @@ unfoldable mutual
   show-expr (Expr.BoolConst b) = a-word (bool-word b)
   show-expr (Expr.FloatConst t) = a-token (Token.float t)
   show-expr (Expr.DoubleConst t) = a-token (Token.double t)
-  show-expr (Expr.Unary op e) = a-symbol (unary-symbol op) ++ bare-if (leb (precedence e) unary-precedence && not (doubles op (unary-op e))) (show-expr e)
+  show-expr (Expr.Unary op e) = a-symbol (unary-symbol op) ++ bare-if (leb (precedence e) unary-precedence && not (doubles op e)) (show-expr e)
   show-expr (Expr.Binary op l r) =
       bare-if (leb (precedence l) (binary-precedence op)) (show-expr l) ++ write-binary-op (binary-symbol op) ++ bare-if (ltb (precedence r) (binary-precedence op)) (show-expr r)
   show-expr (Expr.Ternary c s e) =
