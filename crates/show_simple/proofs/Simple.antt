@@ -19,7 +19,7 @@ use Rattle.text.specs.Token.{Token, spell}
 use Rattle.text.specs.Command.{Command, write-binary-token, write-statement-terminator, write-for-statement-separator, enter-case-label}
 use Rattle.text.specs.Tree.{Expr, Condition, ForInitStatement, JumpStatement, Statement}
 use Rattle.text.specs.Text.{a-word, show-expr, show-fully-specified-type, show-initializer, show-declaration, show-condition, show-for-init-statement, show-jump-statement, show-statement, optional}
-use Rattle.text.specs.Reading.{Item, maybe, itemOf, conditionOf, forInitOf, expr, full-type, initializer, declaration, condition, for-init, expression-statement, case-label, jump-statement}
+use Rattle.text.specs.Reading.{Item, maybe, itemOf, conditionOf, forInitOf, expr, full-type, initializer, declaration, condition, for-init, jump-statement}
 use Rattle.pen.specs.declared.Pen.{Pen}
 use Rattle.pen.specs.Promise.{Wrote, Ran}
 use Rattle.leaves.specs.Shown.{past, Shows}
@@ -29,6 +29,7 @@ use Rattle.leaves.proofs.Shown.{_thus_, wrote}
 use Rattle.show_expr.proofs.Parts.{piece, begin, _writes_, _shows_, so}
 use Rattle.show_expr.proofs.Printers.{put, space, of-parts}
 use Rattle.show_simple.specs.Flushed.{behind-flush}
+use Rattle.show_simple.specs.Parts.{expression-statement, case-label}
 use Rattle.show_simple.specs.Rest.{ForRestStatement, forRest, show-for-rest-statement}
 
 -- a for's rest, from its parts

@@ -1,2 +1,3 @@
 pub mod Flushed
 pub mod Rest
+pub mod Parts

@@ -7,8 +7,9 @@ use native.Mathlib.Omega.{arith}
 use lib.Dec.{eqb}
 use Rattle.records.specs.Record.{bit0, bit1}
 use Rattle.text.specs.Tree.{Expr, ForInitStatement, Statement}
-use Rattle.text.specs.Reading.{Read, Reader, give, applied, behind, _and_, maybe, from, expr, condition, for-init, statement, selection-statement, for-statement}
+use Rattle.text.specs.Reading.{Read, Reader, give, applied, behind, _and_, maybe, from, expr, condition, for-init, statement}
 use Rattle.text.proofs.At.{and-at, part-at}
+use Rattle.show_simple.specs.Parts.{selection-statement, for-statement}
 use Rattle.show_simple.specs.Rest.{ForRestStatement, forRest}
 use Rattle.show_simple.proofs.Simple.{rest-of}
 use Rattle.show_statement.specs.Rest.{SelectionRestStatement, selectionRest}

@@ -19,7 +19,7 @@ use Rattle.text.specs.Command.{Command, write-else, write-statement-terminator,
 use Rattle.text.specs.Command.Command.{flush-line, flush-space, consume-newline, consume-function-definition-statement}
 use Rattle.text.specs.Tree.{Expr, Statement}
 use Rattle.text.specs.Text.{a-word, braced-or-collapsed, show-compound-statement, show-expr, show-declaration, show-condition, show-for-init-statement, show-jump-statement, show-statement, show-statements, optional}
-use Rattle.text.specs.Reading.{Item, Reader, give, made, counted, _and_, from, itemOf, statementOf, compoundOf, expr, declaration, condition, for-init, statement, statements, selection-statement, switch-statement, while-statement, do-while-statement, for-statement, jump-statement}
+use Rattle.text.specs.Reading.{Item, Reader, give, made, counted, _and_, from, itemOf, statementOf, compoundOf, expr, declaration, condition, for-init, statement, statements, jump-statement}
 use Rattle.text.proofs.At.{single-item-count}
 use Rattle.pen.specs.declared.Pen.{Pen}
 use Rattle.pen.specs.Sheet.{leave}
@@ -31,6 +31,7 @@ use Rattle.show_expr.proofs.At.{as-kind}
 use Rattle.show_expr.proofs.Parts.{piece, begin, _writes_, _shows_, so, only}
 use Rattle.show_expr.proofs.Printers.{put, space, enclosed, none-there, of-row, as-sort-row, item-behind}
 use Rattle.show_simple.specs.Flushed.{behind-flush}
+use Rattle.show_simple.specs.Parts.{selection-statement, switch-statement, while-statement, do-while-statement, for-statement}
 use Rattle.show_simple.specs.Rest.{forRest, show-for-rest-statement}
 use Rattle.show_statement.specs.Rest.{SelectionRestStatement, selectionRest, show-selection-rest-statement}
 use Rattle.show_statement.proofs.Grouped.{if-of, for-of, selection-grouped, for-grouped}

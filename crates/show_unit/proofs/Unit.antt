@@ -12,7 +12,7 @@ use Rattle.text.specs.Command.{Command, write-function-definition-terminator}
 use Rattle.text.specs.Command.Command.{flush-line, enter-function-definition-statement}
 use Rattle.text.specs.Tree.{Statements, ExternalDeclaration, TranslationUnit}
 use Rattle.text.specs.Text.{show-compound-statement, show-declaration, show-function-prototype, show-function-definition, show-external-declaration, show-translation-unit}
-use Rattle.text.specs.Reading.{Item, nothing, several, from, itemOf, compoundOf, externalOf, declaration, prototype, external, statements, function-definition}
+use Rattle.text.specs.Reading.{Item, nothing, several, from, itemOf, compoundOf, externalOf, declaration, prototype, external, statements}
 use Rattle.text.specs.Reading.{compound as body}
 use Rattle.pen.specs.declared.Pen.{Pen}
 use Rattle.pen.specs.Promise.{Ran}
@@ -21,6 +21,7 @@ use Rattle.leaves.proofs.Shown.{Listed, wrote, reads, opened}
 use Rattle.show_expr.proofs.Parts.{begin, _writes_, _shows_, piece, so}
 use Rattle.show_expr.proofs.Printers.{of-row, as-sort-row, none-there}
 use Rattle.show_simple.specs.Flushed.{behind-flush}
+use Rattle.show_simple.specs.Parts.{function-definition}
 use Rattle.show_statement.proofs.Statements.{flushed as behind-a-flush}
 
 -- the declarations of a unit

@@ -255,35 +255,11 @@ interpolationOf v = getD (InterpolationQualifier.smooth ∷ InterpolationQualifi
 abbrev pub statements : ℕ → Reader Statements
 statements n = several n statement Statements.no-statements Statements.statements
 
--- the parts of statements and of a function, behind their records, by the variant or the count
-abbrev pub expression-statement : (v : ℕ) → Reader Statement
-expression-statement v = give Statement.Expression and maybe (eqb v 1) expr
-
-abbrev pub selection-statement : (v : ℕ) → Reader Statement
-selection-statement v = by-variant v (at 0 (give Statement.If and expr and statement) ∷ []) (give Statement.IfElse and expr and statement and statement)
-
-abbrev pub switch-statement : (n : ℕ) → Reader Statement
-switch-statement n = give Statement.Switch and expr and statements n
-
-abbrev pub case-label : (v : ℕ) → Reader Statement
-case-label v = by-variant v (at 0 (give Statement.Default) ∷ []) (give Statement.Case and expr)
-
-abbrev pub while-statement : Reader Statement
-while-statement = give Statement.While and condition and statement
-
-abbrev pub do-while-statement : Reader Statement
-do-while-statement = give Statement.DoWhile and statement and expr
-
-abbrev pub for-statement : (v : ℕ) → Reader Statement
-for-statement v = give Statement.For and for-init and maybe (bit0 v) condition and maybe (bit1 v) expr and statement
-
+-- a jump, by its variant
 abbrev pub jump-statement : (v : ℕ) → Reader JumpStatement
 jump-statement v =
     by-variant v (at 0 (give JumpStatement.Continue) ∷ at 1 (give JumpStatement.Break) ∷ at 2 (give JumpStatement.Discard) ∷ at 3 (give (JumpStatement.Return none)) ∷ [])
     (give (λ e. JumpStatement.Return (some e)) and expr)
-
-abbrev pub function-definition : Reader ExternalDeclaration
-function-definition = give ExternalDeclaration.FunctionDefinition and prototype and compound
 
 module _ (names : List ℕ) (r : Record) where
   abbrev v : ℕ
@@ -413,13 +389,13 @@ module _ (names : List ℕ) (r : Record) where
   statementOf = by-kind (r .kind) Statement.no-statement (
       as-sort 47 Statement.OfDeclaration declarationOf
       ∷ as-sort 60 Statement.Compound compoundOf
-      ∷ kind 61 (expression-statement v)
-      ∷ kind 62 (selection-statement v)
-      ∷ kind 63 (switch-statement n)
-      ∷ kind 64 (case-label v)
-      ∷ kind 65 while-statement
-      ∷ kind 66 do-while-statement
-      ∷ kind 67 (for-statement v)
+      ∷ kind 61 (give Statement.Expression and maybe (eqb v 1) expr)
+      ∷ kind 62 (by-variant v (at 0 (give Statement.If and expr and statement) ∷ []) (give Statement.IfElse and expr and statement and statement))
+      ∷ kind 63 (give Statement.Switch and expr and statements n)
+      ∷ kind 64 (by-variant v (at 0 (give Statement.Default) ∷ []) (give Statement.Case and expr))
+      ∷ kind 65 (give Statement.While and condition and statement)
+      ∷ kind 66 (give Statement.DoWhile and statement and expr)
+      ∷ kind 67 (give Statement.For and for-init and maybe (bit0 v) condition and maybe (bit1 v) expr and statement)
       ∷ kind 68 (give Statement.OfJump and jump-statement v)
       ∷ [])
 
@@ -434,7 +410,10 @@ module _ (names : List ℕ) (r : Record) where
       ∷ [])
 
   unfoldable pub externalOf : Reader ExternalDeclaration
-  externalOf = by-kind (r .kind) ExternalDeclaration.no-external (as-sort 47 ExternalDeclaration.OfDeclaration declarationOf ∷ kind 81 function-definition ∷ [])
+  externalOf = by-kind (r .kind) ExternalDeclaration.no-external (
+      as-sort 47 ExternalDeclaration.OfDeclaration declarationOf
+      ∷ kind 81 (give ExternalDeclaration.FunctionDefinition and prototype and compound)
+      ∷ [])
 
   unfoldable pub unitOf : Reader TranslationUnit
   unitOf = by-kind (r .kind) [] (kind 80 (several n external [] _∷_) ∷ [])

@@ -5,7 +5,8 @@ use borrow.Author.Needs.{needs}
 use mathlib.Core.Path.{refl}
 use Rattle.text.specs.Text.{show-statement}
 use Rattle.text.specs.Reading.{statement as a-statement}
-use Rattle.text.specs.Reading.{itemOf, statementOf, expression-statement, selection-statement, switch-statement, case-label, while-statement, do-while-statement, for-statement}
+use Rattle.text.specs.Reading.{itemOf, statementOf}
+use Rattle.show_simple.specs.Parts.{expression-statement, selection-statement, switch-statement, case-label, while-statement, do-while-statement, for-statement}
 use Rattle.leaves.proofs.Shown.{wrote, shown-length}
 use Rattle.show_expr.proofs.Printers as Printers
 use Rattle.show_statement.proofs.Statements as Statements
