@@ -14,7 +14,7 @@ use Rattle.text.specs.Token.{Token}
 use Rattle.text.specs.Command.{symbol}
 use Rattle.text.specs.Tree.{Expr, Exprs, FunIdentifier}
 use Rattle.text.specs.Text.{a-token, show-int, show-expr, show-exprs, show-function-identifier}
-use Rattle.text.specs.Reading.{first, exprOf, unaryOp, binaryOp, assignmentOp}
+use Rattle.text.specs.Reading.{first-kind, exprOf, unaryOp, binaryOp, assignmentOp}
 use Rattle.formed.specs.Formed.{Formed-expr, Formed-exprs, Formed-callee}
 use Rattle.bounded.proofs.Weight.{weighs}
 use Rattle.bounded.proofs.Texts.{name-short, float-short}
@@ -39,7 +39,7 @@ module _ {collapse : Bool} where
 
   unfoldable callee : Part collapse FunIdentifier
   unfolding Formed-callee show-function-identifier weighs reading Holds
-  callee = part (light (λ L all. either {Formed = Formed-callee} {show = show-function-identifier} {more = 0} (eqb (first L .kind) 20)
+  callee = part (light (λ L all. either {Formed = Formed-callee} {show = show-function-identifier} {more = 0} (eqb (first-kind L) 20)
       (parts (give FunIdentifier.OfType and type) (λ x a h. omega (arith, a .weight h)))
       (parts (give FunIdentifier.OfExpr and expr) (λ x a h. omega (arith, a .weight h))) .light L all))
 

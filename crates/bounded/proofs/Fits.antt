@@ -8,7 +8,8 @@ use lib.ListN.{drop}
 use lib.Seq.{drop-drop}
 use Rattle.words.specs.Symbol.{Symbol}
 use Rattle.text.specs.Command.{Command, symbol, exit-block, exit-collapsed-compound-statement}
-use Rattle.text.specs.Reading.{Read, Item, first}
+use Rattle.text.specs.Reading as Reading
+use Rattle.text.specs.Reading.{Read, Item}
 use Rattle.text.specs.Text.{bare-if, parenthesized, separator, braced-or-collapsed, space-between, show-expr, show-type-specifier, show-type-specifier-non-array, show-array-spec, show-dimension, show-struct-field, show-arrayed-identifier, show-type-qualifier, show-type-qualifier-spec, show-layout-qualifier-spec, show-fully-specified-type, show-function-prototype, show-function-parameter-declaration, show-init-declarator-list, show-single-declaration, show-single-declaration-no-type, show-initializer, show-block, show-declaration, show-statements, show-statement, show-condition, show-for-init-statement, show-external-declaration, show-translation-unit}
 use Rattle.formed.specs.Formed.{Formed-expr, Formed-type, Formed-base, Formed-dimensions, Formed-dimension, Formed-field, Formed-identifier, Formed-qualifier, Formed-spec, Formed-id, Formed-full-type, Formed-prototype, Formed-parameter, Formed-declarators, Formed-single, Formed-declarator, Formed-initializer, Formed-block, Formed-declaration, Formed-statements, Formed-statement, Formed-condition, Formed-for-init, Formed-external, Formed-unit}
 use Rattle.bounded.proofs.Weight.{level-weight, record-weight, line-weight, weighs, weighs-append}
@@ -29,40 +30,40 @@ between = 10
 abbrev pub own-line : ℕ
 own-line = line-weight + between
 
--- a record fits as every sort of tree that it can be
-pub record Fit (collapse : Bool) (x : Item) : Type 0 where
-  pub expr : Fits Formed-expr show-expr between (x .expr)
-  pub type : Fits Formed-type show-type-specifier between (x .type)
-  pub base : Fits Formed-base show-type-specifier-non-array 0 (x .base)
-  pub array : Fits Formed-dimensions show-array-spec 0 (x .array)
-  pub dimension : Fits Formed-dimension show-dimension 0 (x .dimension)
-  pub field : Fits Formed-field show-struct-field own-line (x .field)
-  pub identifier : Fits Formed-identifier show-arrayed-identifier between (x .identifier)
-  pub qualifier : Fits Formed-qualifier (λ q. show-type-qualifier q true) between (x .qualifier)
-  pub spec : Fits Formed-spec show-type-qualifier-spec between (x .spec)
-  pub layout-id : Fits Formed-id show-layout-qualifier-spec between (x .layout-id)
-  pub full-type : Fits Formed-full-type show-fully-specified-type 0 (x .full-type)
-  pub prototype : Fits Formed-prototype show-function-prototype 0 (x .prototype)
-  pub parameter : Fits Formed-parameter show-function-parameter-declaration between (x .parameter)
-  pub declarators : Fits Formed-declarators show-init-declarator-list 0 (x .declarators)
-  pub single : Fits Formed-single show-single-declaration 0 (x .single)
-  pub declarator : Fits Formed-declarator show-single-declaration-no-type between (x .declarator)
-  pub initializer : Fits Formed-initializer show-initializer between (x .initializer)
-  pub block : Fits Formed-block show-block 0 (x .block)
-  pub declaration : Fits Formed-declaration show-declaration own-line (x .declaration)
-  pub compound : Fits Formed-statements (show-statements collapse) 0 (x .compound)
-  pub statement : Fits Formed-statement (show-statement collapse) 0 (x .statement)
-  pub condition : Fits Formed-condition show-condition 0 (x .condition)
-  pub for-init : Fits Formed-for-init show-for-init-statement 0 (x .for-init)
-  pub external : Fits Formed-external (show-external-declaration collapse) 0 (x .external)
-  pub unit : Fits Formed-unit (show-translation-unit collapse) 0 (x .unit)
+-- what stands first of some records fits as every sort of tree that it can be
+pub record Fit (collapse : Bool) (L : List Item) : Type 0 where
+  pub expr : Fits Formed-expr show-expr between (Reading.expr L)
+  pub type : Fits Formed-type show-type-specifier between (Reading.type L)
+  pub base : Fits Formed-base show-type-specifier-non-array 0 (Reading.base L)
+  pub array : Fits Formed-dimensions show-array-spec 0 (Reading.array L)
+  pub dimension : Fits Formed-dimension show-dimension 0 (Reading.dimension L)
+  pub field : Fits Formed-field show-struct-field own-line (Reading.field L)
+  pub identifier : Fits Formed-identifier show-arrayed-identifier between (Reading.identifier L)
+  pub qualifier : Fits Formed-qualifier (λ q. show-type-qualifier q true) between (Reading.qualifier L)
+  pub spec : Fits Formed-spec show-type-qualifier-spec between (Reading.spec L)
+  pub layout-id : Fits Formed-id show-layout-qualifier-spec between (Reading.layout-id L)
+  pub full-type : Fits Formed-full-type show-fully-specified-type 0 (Reading.full-type L)
+  pub prototype : Fits Formed-prototype show-function-prototype 0 (Reading.prototype L)
+  pub parameter : Fits Formed-parameter show-function-parameter-declaration between (Reading.parameter L)
+  pub declarators : Fits Formed-declarators show-init-declarator-list 0 (Reading.declarators L)
+  pub single : Fits Formed-single show-single-declaration 0 (Reading.single L)
+  pub declarator : Fits Formed-declarator show-single-declaration-no-type between (Reading.declarator L)
+  pub initializer : Fits Formed-initializer show-initializer between (Reading.initializer L)
+  pub block : Fits Formed-block show-block 0 (Reading.block L)
+  pub declaration : Fits Formed-declaration show-declaration own-line (Reading.declaration L)
+  pub compound : Fits Formed-statements (show-statements collapse) 0 (Reading.compound L)
+  pub statement : Fits Formed-statement (show-statement collapse) 0 (Reading.statement L)
+  pub condition : Fits Formed-condition show-condition 0 (Reading.condition L)
+  pub for-init : Fits Formed-for-init show-for-init-statement 0 (Reading.for-init L)
+  pub external : Fits Formed-external (show-external-declaration collapse) 0 (Reading.external L)
+  pub unit : Fits Formed-unit (show-translation-unit collapse) 0 (Reading.unit L)
 
 -- each of some records does
 abbrev pub AllFit : Bool → List Item → Type 0
-AllFit collapse L = (k : ℕ) → Fit collapse (first (drop k L))
+AllFit collapse L = (k : ℕ) → Fit collapse (drop k L)
 
 pub behind-fit : (collapse : Bool) (j : ℕ) (L : List Item) → AllFit collapse L → AllFit collapse (drop j L)
-behind-fit collapse j L all k = subst (λ (M : List Item). Fit collapse (first M)) (sym (drop-drop k j L)) (all (j + k))
+behind-fit collapse j L all k = subst (Fit collapse) (sym (drop-drop k j L)) (all (j + k))
 
 -- What may stand around a part, as equations for `simp`; `min` tells `omega` how much it is at most.
 

@@ -14,7 +14,7 @@ use Rattle.accept.specs.Check.{most-records, check}
 use Rattle.accepted.proofs.Sizes.{few-records}
 use Rattle.text.specs.Command.{Command}
 use Rattle.text.specs.Text.{show-expr, show-translation-unit}
-use Rattle.text.specs.Reading.{itemAt}
+use Rattle.text.specs.Reading.{expr, unit, from}
 use Rattle.formed.proofs.Formed.{expr-formed, expr-size, unit-formed, unit-size}
 use Rattle.pen.specs.declared.Pen.{Pen}
 use Rattle.pen.specs.Free.{climbs, Free}
@@ -32,13 +32,13 @@ free s narrow cs n w h p at state =
     }
 
 module _ (rs ns : List ℕ) (byte : (p : ℕ) → getD rs p 0 < 256) (m : ℕ) (s : Settings) (narrow : s .count ≤ widest-indent) where
-  pub expr-free : check rs ns Class.expr ≡ Next m → (p : Pen) → p .at ≡ 0 → p .state ≡ fresh → Free s (show-expr (itemAt rs ns 0 .expr .tree)) p
+  pub expr-free : check rs ns Class.expr ≡ Next m → (p : Pen) → p .at ≡ 0 → p .state ≡ fresh → Free s (show-expr (expr (from rs ns 0) .tree)) p
   expr-free e =
       let w = item-fits true ns rs 0 .expr .weight (expr-formed rs ns byte m e) in
-      free s narrow _ (itemAt rs ns 0 .expr .size) (omega (arith, w)) (omega (arith, expr-size rs ns byte m e, few-records rs ns Class.expr m e))
+      free s narrow _ (expr (from rs ns 0) .size) (omega (arith, w)) (omega (arith, expr-size rs ns byte m e, few-records rs ns Class.expr m e))
 
   pub unit-free : check rs ns Class.unit ≡ Next m → (collapse : Bool) (p : Pen) → p .at ≡ 0 → p .state ≡ fresh
-      → Free s (show-translation-unit collapse (itemAt rs ns 0 .unit .tree)) p
+      → Free s (show-translation-unit collapse (unit (from rs ns 0) .tree)) p
   unit-free e collapse =
       let w = item-fits collapse ns rs 0 .unit .weight (unit-formed rs ns byte m e) in
-      free s narrow _ (itemAt rs ns 0 .unit .size) (omega (arith, w)) (omega (arith, unit-size rs ns byte m e, few-records rs ns Class.unit m e))
+      free s narrow _ (unit (from rs ns 0) .size) (omega (arith, w)) (omega (arith, unit-size rs ns byte m e, few-records rs ns Class.unit m e))

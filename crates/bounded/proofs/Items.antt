@@ -6,7 +6,7 @@ use native.Mathlib.Omega.{arith}
 use Rattle.records.specs.declared.Record.{Record}
 use Rattle.records.specs.Record.{recordAt, recordCount}
 use Rattle.text.specs.Text.{show-array-spec, show-statements, show-translation-unit}
-use Rattle.text.specs.Reading.{Item, no-item, first, itemOf, onto, items, from, itemAt}
+use Rattle.text.specs.Reading.{Item, first, itemOf, onto, items, from}
 use Rattle.formed.specs.Formed.{Formed-expr, Formed-full-type, Formed-prototype, Formed-parameter, Formed-declarators, Formed-single, Formed-declarator, Formed-initializer, Formed-block, Formed-declaration, Formed-statement, Formed-condition, Formed-for-init, Formed-external}
 use Rattle.bounded.proofs.Weight.{weighs}
 use Rattle.bounded.proofs.Fits.{fits, Fit, AllFit}
@@ -17,8 +17,8 @@ use Rattle.bounded.proofs.Statements.{compounds-fit, statements-fit, co
 
 module _ (collapse : Bool) where
   -- what is no record is not formed, or writes nothing
-  nothing-fits : Fit collapse no-item
-  unfolding Formed-expr Formed-full-type Formed-prototype Formed-parameter Formed-declarators Formed-single Formed-declarator Formed-initializer Formed-block Formed-declaration Formed-statement Formed-condition Formed-for-init Formed-external show-array-spec show-statements show-translation-unit weighs
+  nothing-fits : Fit collapse []
+  unfolding first Formed-expr Formed-full-type Formed-prototype Formed-parameter Formed-declarators Formed-single Formed-declarator Formed-initializer Formed-block Formed-declaration Formed-statement Formed-condition Formed-for-init Formed-external show-array-spec show-statements show-translation-unit weighs
   nothing-fits = record {
     expr = fits (λ h. absurd h);
     type = fits (λ h. absurd h);
@@ -48,8 +48,8 @@ module _ (collapse : Bool) where
   }
 
   module _ (ns : List ℕ) where
-    record-fits : (r : Record) (L : List Item) → AllFit collapse L → Fit collapse (itemOf ns r L)
-    unfolding itemOf
+    record-fits : (r : Record) (L : List Item) → AllFit collapse L → Fit collapse (onto ns r L)
+    unfolding first itemOf
     record-fits r L all = record {
       expr = exprs-fit collapse ns r .light L all;
       type = types-fit collapse ns r .light L all;
@@ -79,12 +79,10 @@ module _ (collapse : Bool) where
     }
 
     none-fit : AllFit collapse []
-    unfolding first
     none-fit zero = nothing-fits
     none-fit (suc k) = nothing-fits
 
     more-fit : (r : Record) (L : List Item) → AllFit collapse L → AllFit collapse (onto ns r L)
-    unfolding first
     more-fit r L all zero = record-fits r L all
     more-fit r L all (suc k) = all k
 
@@ -93,6 +91,6 @@ module _ (collapse : Bool) where
     items-fit rs zero i = none-fit
     items-fit rs (suc n) i = more-fit (recordAt rs i) (items n rs ns (i + 1)) (items-fit rs n (i + 1))
 
-    pub item-fits : (rs : List ℕ) (i : ℕ) → Fit collapse (itemAt rs ns i)
+    pub item-fits : (rs : List ℕ) (i : ℕ) → Fit collapse (from rs ns i)
     unfolding from
     item-fits rs i = items-fit rs (recordCount rs - i) i 0

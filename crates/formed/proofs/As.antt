@@ -4,7 +4,7 @@ use mathlib.Core.List.{List, [], _∷_}
 use Prim.Native.Nat.{ℕ, _+_}
 use Rattle.shapes.specs.Class.{Class}
 use Rattle.text.specs.Tree.{Expr, FunIdentifier, TypeSpecifier, TypeSpecifierNonArray, ArraySpecifier, ArraySpecifierDimension, StructFieldSpecifier, ArrayedIdentifier, TypeQualifier, TypeQualifierSpec, LayoutQualifierSpec, FullySpecifiedType, FunctionParameterDeclaration, FunctionPrototype, Initializer, SingleDeclaration, SingleDeclarationNoType, InitDeclaratorList, Block, Declaration, Condition, ForInitStatement, Statement, Statements, ExternalDeclaration, TranslationUnit}
-use Rattle.text.specs.Reading.{Read, Reader, made, first, from, expr, callee, type, base, array, dimension, field, identifier, qualifier, spec, layout-id, full-type, prototype, parameter, declarators, single, declarator, initializer, block, declaration, compound, statement, condition, for-init, external}
+use Rattle.text.specs.Reading.{Read, Reader, made, from, expr, callee, type, base, array, dimension, field, identifier, qualifier, spec, layout-id, full-type, prototype, parameter, declarators, single, declarator, initializer, block, declaration, compound, statement, condition, for-init, external, unit}
 use Rattle.formed.specs.Formed.{Formed-expr, Formed-callee, Formed-type, Formed-base, Formed-array, Formed-dimension, Formed-field, Formed-identifier, Formed-qualifier, Formed-spec, Formed-precision, Formed-id, Formed-full-type, Formed-prototype, Formed-parameter, Formed-declarators, Formed-single, Formed-declarator, Formed-initializer, Formed-block, Formed-declaration, Formed-statements, Formed-statement, Formed-condition, Formed-for-init, Formed-external, Formed-unit}
 
 -- the sort of tree that a class asks for
@@ -65,7 +65,7 @@ reader Class.statement = statement
 reader Class.condition = condition
 reader Class.for-init = for-init
 reader Class.external = external
-reader Class.unit = λ L. first L .unit
+reader Class.unit = unit
 
 -- formed, as that sort
 abbrev pub Formed : (c : Class) → Sort c → Type 0

@@ -13,7 +13,7 @@ use Rattle.accept.proofs.Accepted.{next-is, bind-next, node-next, node-deep}
 use Rattle.accepted.proofs.Places.{all-taken}
 use Rattle.accepted.proofs.Sizes.{check-next}
 use Rattle.accepted.proofs.Each.{each-record}
-use Rattle.text.specs.Reading.{Item, itemAt}
+use Rattle.text.specs.Reading.{Item, expr, unit, from}
 use Rattle.text.proofs.At.{from-in}
 use Rattle.formed.specs.Formed.{Formed-expr, Formed-unit}
 use Rattle.formed.proofs.As.{reader, Formed, Reads, As, Parts}
@@ -53,14 +53,14 @@ module _ (rs ns : List ℕ) where
     pub root-reads : (c : Class) (m : ℕ) → check rs ns c ≡ Next m → As rs ns c 0 (recordCount rs)
     root-reads c m e = subst (As rs ns c 0) (all-taken rs ns c m e) (node-reads deepest c 0 m (check-next rs ns c m e .2))
 
-    pub unit-formed : (m : ℕ) → check rs ns Class.unit ≡ Next m → Formed-unit (itemAt rs ns 0 .unit .tree)
+    pub unit-formed : (m : ℕ) → check rs ns Class.unit ≡ Next m → Formed-unit (unit (from rs ns 0) .tree)
     unit-formed m e = root-reads Class.unit m e .formed
 
-    pub unit-size : (m : ℕ) → check rs ns Class.unit ≡ Next m → itemAt rs ns 0 .unit .size ≡ recordCount rs
+    pub unit-size : (m : ℕ) → check rs ns Class.unit ≡ Next m → unit (from rs ns 0) .size ≡ recordCount rs
     unit-size m e = omega (arith, root-reads Class.unit m e .ends)
 
-    pub expr-formed : (m : ℕ) → check rs ns Class.expr ≡ Next m → Formed-expr (itemAt rs ns 0 .expr .tree)
+    pub expr-formed : (m : ℕ) → check rs ns Class.expr ≡ Next m → Formed-expr (expr (from rs ns 0) .tree)
     expr-formed m e = root-reads Class.expr m e .formed
 
-    pub expr-size : (m : ℕ) → check rs ns Class.expr ≡ Next m → itemAt rs ns 0 .expr .size ≡ recordCount rs
+    pub expr-size : (m : ℕ) → check rs ns Class.expr ≡ Next m → expr (from rs ns 0) .size ≡ recordCount rs
     expr-size m e = omega (arith, root-reads Class.expr m e .ends)

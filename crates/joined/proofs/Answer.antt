@@ -17,7 +17,7 @@ use Rattle.accept.specs.Check.{each, node, childrenOf, check, most-records}
 use Rattle.accept.proofs.Accepted.{bind-next, node-next, node-deep, no-fault-variant}
 use Rattle.accepted.proofs.Each.{each-record}
 use Rattle.accepted.proofs.Sizes.{few-records}
-use Rattle.text.specs.Reading.{Item, first, from, itemAt, expr, binaryOp}
+use Rattle.text.specs.Reading.{Item, from, expr, binaryOp}
 use Rattle.text.specs.Joined.{joins, joins-right, joined, joinedAnswer}
 use Rattle.text.proofs.At.{from-drop}
 use Rattle.formed.proofs.Kind.{rec}
@@ -47,8 +47,8 @@ module _ (rs ns : List ℕ) (byte : (p : ℕ) → getD rs p 0 < 256) where
       ap (λ (t : List ℕ). joinsAt (rec 8 v n a b) (getD t 1 0)) (node-stack rs ns left Class.expr (i + 1) k (l .1))
       ∙ ap (λ (t : List ℕ). joinsAt (rec 8 v n a b) (getD t 0 0)) (node-stack rs ns left Class.expr k (r .0) (r .1))
       ∙ ap (λ (x : Head). joinsAt (rec 8 v n a b) (bareSign x additive)) (head-at rs ns k)
-      ∙ tested n a b (itemAt rs ns k .expr .tree) formed v h
-      ∙ ap (λ (L : List Item). joins (binaryOp v) (first L .expr .tree)) (sym (from-drop rs ns s (i + 1) ∙ ap (from rs ns) there))
+      ∙ tested n a b (expr (from rs ns k) .tree) formed v h
+      ∙ ap (λ (L : List Item). joins (binaryOp v) (expr L .tree)) (sym (from-drop rs ns s (i + 1) ∙ ap (from rs ns) there))
 
   -- any record of an accepted tree
   joins-here : (left : ℕ) (c : Class) (i m : ℕ) → node rs ns left c i ≡ Next m → Alike i (recordAt rs i)

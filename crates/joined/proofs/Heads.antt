@@ -10,7 +10,7 @@ use Rattle.records.specs.Record.{recordAt, recordCount}
 use Rattle.formed.proofs.Kind.{rec}
 use Rattle.text.specs.Tree.{Expr, FunIdentifier}
 use Rattle.text.specs.Text.{precedence}
-use Rattle.text.specs.Reading.{Read, Item, Reader, first, items, from, itemAt, itemOf, exprOf, expr, callee, type, give, _and_, unaryOp}
+use Rattle.text.specs.Reading.{Read, Item, Reader, first, first-kind, items, from, itemOf, exprOf, expr, callee, type, give, _and_, unaryOp}
 use Rattle.joined.specs.declared.Head.{Head}
 use Rattle.precedence.specs.Precedence.{precedenceOf}
 use Rattle.joined.specs.Stack.{unarySign, bareSign, firstBelow, signOf, headOf, no-head, walk}
@@ -38,7 +38,7 @@ record Headed (h : Head) (x : Read Expr) : Type 0 where
   pub is : h ≡ head (x .tree)
 
 -- a record of kind k before the records L, of which the first is no expression where it is a type
-module _ (ns : List ℕ) (k v n a b : ℕ) (L : List Item) (type-first : first L .kind ≡ 20 → first L .expr .tree ≡ Expr.no-expr) where
+module _ (ns : List ℕ) (k v n a b : ℕ) (L : List Item) (type-first : first-kind L ≡ 20 → expr L .tree ≡ Expr.no-expr) where
   abbrev F : ℕ → Head
   F k = headOf (rec k v n a b) (head (expr L .tree))
 
@@ -53,9 +53,9 @@ module _ (ns : List ℕ) (k v n a b : ℕ) (L : List Item) (type-first : first L
   -- a type begins with no sign
   call : sign (expr L .tree) ≡ sign-callee (callee L .tree)
   unfolding sign
-  call = go (eqb (first L .kind) 20) refl
+  call = go (eqb (first-kind L) 20) refl
     where
-      go : (b : Bool) → eqb (first L .kind) 20 ≡ b → sign (expr L .tree) ≡ sign-callee (cond b (give FunIdentifier.OfType and type) (give FunIdentifier.OfExpr and expr) L .tree)
+      go : (b : Bool) → eqb (first-kind L) 20 ≡ b → sign (expr L .tree) ≡ sign-callee (cond b (give FunIdentifier.OfType and type) (give FunIdentifier.OfExpr and expr) L .tree)
       go true e = ap sign (type-first (eqb-true _ _ e))
       go false e = refl
 
@@ -82,12 +82,12 @@ module _ (ns : List ℕ) (k v n a b : ℕ) (L : List Item) (type-first : first L
 
 -- a type is no expression
 module _ (rs ns : List ℕ) where
-  type-first : (n i : ℕ) → first (items n rs ns i) .kind ≡ 20 → first (items n rs ns i) .expr .tree ≡ Expr.no-expr
-  unfolding items first itemOf exprOf
+  type-first : (n i : ℕ) → first-kind (items n rs ns i) ≡ 20 → expr (items n rs ns i) .tree ≡ Expr.no-expr
+  unfolding items first first-kind itemOf exprOf
   type-first zero i e = refl
   type-first (suc n) i e = let r = recordAt rs i in ap (λ (k : ℕ). exprOf ns (rec k (r .variant) (r .count) (r .a) (r .b)) (items n rs ns (i + 1)) .tree) e
 
-  heads : (n i : ℕ) → walk rs n i .head ≡ head (first (items n rs ns i) .expr .tree)
+  heads : (n i : ℕ) → walk rs n i .head ≡ head (expr (items n rs ns i) .tree)
   unfolding walk items first itemOf sign precedence
   heads zero i = refl
   heads (suc n) i =
@@ -95,6 +95,6 @@ module _ (rs ns : List ℕ) where
       let L = items n rs ns (i + 1) in
       ap (headOf r) (heads n (i + 1)) ∙ head-here ns (r .kind) (r .variant) (r .count) (r .a) (r .b) L (type-first n (i + 1)) .is
 
-  pub head-at : (i : ℕ) → walk rs (recordCount rs - i) i .head ≡ head (itemAt rs ns i .expr .tree)
+  pub head-at : (i : ℕ) → walk rs (recordCount rs - i) i .head ≡ head (expr (from rs ns i) .tree)
   unfolding from
   head-at i = heads (recordCount rs - i) i

@@ -8,13 +8,13 @@ use native.Mathlib.Omega.{arith}
 use lib.ListN.{length}
 use borrow.Author.Tests.{lt-ltb}
 use Rattle.records.specs.declared.Record.{Record}
-use Rattle.records.specs.Record.{recordAt, recordCount}
+use Rattle.records.specs.Record.{recordAt, recordCount, no-record}
 use Rattle.records.proofs.Laws.{kind-stands}
 use Rattle.settings.specs.declared.Settings.{Settings}
 use Rattle.text.specs.Token.{Token, spell}
 use Rattle.text.specs.Command.{Command}
-use Rattle.text.specs.Reading.{Item, Read, Reader, give, applied, counted, _and_, several, itemOf, from, itemAt}
-use Rattle.text.proofs.At.{item-at, and-at, several-at}
+use Rattle.text.specs.Reading.{Item, Read, Reader, nothing, first, give, applied, counted, _and_, several, itemOf, from}
+use Rattle.text.proofs.At.{first-in, item-at, and-at, several-at}
 use Rattle.pen.specs.declared.Pen.{Pen}
 use Rattle.pen.specs.Sheet.{Sheet}
 use Rattle.pen.specs.Run.{run}
@@ -77,9 +77,14 @@ module _ (records names : List ℕ) where
   part-more {A = A} {B = B} f q x i j e h =
       and-at records names f q i ∙ ap (λ (y : Read (A → B)). applied y (q (from records names (i + y .size)))) e ∙ ap (λ (k : ℕ). applied x (q (from records names k))) (sym h)
 
-  -- what a record is, told by the record that was read
-  pub opened : {A : Type 0} (f : Item → Read A) {r : Record} (i : ℕ) → r ≡ recordAt records i → f (itemAt records names i) ≡ f (itemOf names r (from records names (i + 1)))
-  opened f i e = ap f (item-at records names i) ∙ ap (λ (x : Record). f (itemOf names x (from records names (i + 1)))) (sym e)
+  -- what a record is, told by the record that was read: one that stands there, or any, where a record of zeros is none of the sort
+  pub opened : {A : Type 0} (sort : Item → Read A) (a : A) {r : Record} (i : ℕ) → i < recordCount records → r ≡ recordAt records i
+      → first sort a (from records names i) ≡ sort (itemOf names r (from records names (i + 1)))
+  opened sort a i h e = first-in records names sort a i h ∙ ap (λ (x : Record). sort (itemOf names x (from records names (i + 1)))) (sym e)
+
+  pub opened-any : {A : Type 0} (sort : Item → Read A) (a : A) {r : Record} (i : ℕ) → ((L : List Item) → sort (itemOf names no-record L) ≡ nothing a) → r ≡ recordAt records i
+      → first sort a (from records names i) ≡ sort (itemOf names r (from records names (i + 1)))
+  opened-any sort a i h e = item-at records names sort a i h ∙ ap (λ (x : Record). sort (itemOf names x (from records names (i + 1)))) (sym e)
 
   -- a record and its parts
   pub entered : {A : Type 0} (show : A → List Command) (q parts : Reader A) {s : Settings} {room room′ : List ℕ} {p p₁ p′ : Pen}

@@ -18,7 +18,7 @@ use Rattle.text.specs.Token.Token.{name, symbol}
 use Rattle.text.specs.Tree.{UnaryOp, BinaryOp, Expr}
 use Rattle.text.specs.Tree.Expr.{Variable, Unary, Binary, PostDec}
 use Rattle.sound.specs.Sound.{Unmixed}
-use Rattle.text.specs.Reading.{itemAt}
+use Rattle.text.specs.Reading.{expr, from}
 use Rattle.text.specs.Whole.{exprText}
 use Rattle.text.proofs.Computing.{computing}
 use Rattle.grammar.specs.Same.{Same}
@@ -68,8 +68,8 @@ bytes-below (b ∷ bs) h (suc p) = bytes-below bs (both (ltb b 256) (all (λ b. 
 
 pub record Story : Type 0 where
   -- the records hold the two expressions
-  pub first : itemAt minus-decremented names 0 .expr .tree ≡ n-minus-decremented-k
-  pub second : itemAt decremented-minus names 0 .expr .tree ≡ n-decremented-minus-k
+  pub first : expr (from minus-decremented names 0) .tree ≡ n-minus-decremented-k
+  pub second : expr (from decremented-minus names 0) .tree ≡ n-decremented-minus-k
   -- OPEN: two texts, and the first is read as itself
   pub open-text : handed OPEN minus-decremented ≡ bytes "n - --k"
   pub open-other : handed OPEN decremented-minus ≡ bytes "n-- - k"

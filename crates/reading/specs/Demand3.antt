@@ -12,7 +12,7 @@ use Prim.Native.Nat.{ℕ, _<_}
 use lib.ListN.{getD}
 use Rattle.settings.specs.Settings.{settingsOf}
 use Rattle.text.specs.Tree.{Expr}
-use Rattle.text.specs.Reading.{itemAt}
+use Rattle.text.specs.Reading.{expr, from}
 use Rattle.text.specs.Whole.{exprText}
 use Rattle.glsl.specs.Printed.{exprOutcome, refusalNumber, refusalPlace, front}
 use Rattle.lexis.specs.Keywords.{listed}
@@ -38,7 +38,7 @@ pub record Call : Type 0 where
 
 -- the expression that its records and names hold
 abbrev pub recorded : Call → Expr
-recorded c = itemAt (c .records) (c .names) 0 .expr .tree
+recorded c = expr (from (c .records) (c .names) 0) .tree
 
 -- it is sound in GLSL, and is printed with spaces around operators
 pub record SpacedAndSound (c : Call) : Type 0 where

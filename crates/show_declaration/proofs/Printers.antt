@@ -40,7 +40,7 @@ module _ (rs ns : List ℕ) {s : Settings} where
         → Shows show-type-specifier type s rs ns room₂ p₂ room₁ p₁ → Shows show-fully-specified-type full-type s rs ns room₀ p₀ room₁ p₁
     unfolding show-fully-specified-type itemOf fullTypeOf
     full-type-of k f a b =
-        of-parts rs ns e (λ (x : Item). x .full-type) show-fully-specified-type 31 (omega arith) k f
+        of-parts rs ns e (λ (x : Item). x .full-type) _ show-fully-specified-type 31 (omega arith) k f
         (begin FullySpecifiedType.full-type shows piece show-qualification (qualification-if (eqb (r .variant) 1)) a shows piece show-type-specifier type b) refl refl
 
     pub prototype-of : r .kind ≡ 40 → {room₂ room₃ room₄ room₅ room₆ : List ℕ} {p₂ p₃ p₄ p₅ p₆ : Pen} → p ≡ past rs p₀
@@ -49,7 +49,7 @@ module _ (rs ns : List ℕ) {s : Settings} where
         → Shows show-function-prototype prototype s rs ns room₀ p₀ room₁ p₁
     unfolding show-function-prototype spell symbolText itemOf prototypeOf
     prototype-of k {p₂ = p₂} {p₅ = p₅} f a w n o b c =
-        of-parts rs ns e (λ (x : Item). x .prototype) show-function-prototype 40 (omega arith) k f
+        of-parts rs ns e (λ (x : Item). x .prototype) _ show-function-prototype 40 (omega arith) k f
         (begin (FunctionPrototype.prototype (textOf ns r)) shows piece show-fully-specified-type full-type a writes space w writes put (Token.name (textOf ns r)) refl n
         writes put (Token.symbol Symbol.left-paren) refl o shows piece (λ ps. show-parameters ps true) (several (r .count) parameter [] _∷_) b writes put (Token.symbol Symbol.right-paren) refl c) refl
         (enclosed (show-fully-specified-type (full-type (from rs ns (p .next)) .tree) ++ a-space ++ show-identifier (textOf ns r)) (a-symbol Symbol.left-paren)
@@ -60,7 +60,7 @@ module _ (rs ns : List ℕ) {s : Settings} where
         → Shows show-type-specifier type s rs ns room₂ p₂ room₁ p₁ → Shows show-function-parameter-declaration parameter s rs ns room₀ p₀ room₁ p₁
     unfolding show-function-parameter-declaration itemOf parameterOf
     unnamed k v f a b =
-        of-parts rs ns e (λ (x : Item). x .parameter) show-function-parameter-declaration 41 (omega arith) k f
+        of-parts rs ns e (λ (x : Item). x .parameter) _ show-function-parameter-declaration 41 (omega arith) k f
         (begin FunctionParameterDeclaration.Unnamed shows piece show-qualification (qualification-if (bit1 (r .variant))) a shows piece show-type-specifier type b) (rw (ne-eqb (r .variant % 2) 1 v) refl) refl
 
     pub named : r .kind ≡ 41 → r .variant % 2 ≡ 1 → {room₂ room₃ room₄ : List ℕ} {p₂ p₃ p₄ : Pen} → p ≡ past rs p₀ → Shows show-qualification (qualification-if (bit1 (r .variant))) s rs ns room₀ p room₂ p₂
@@ -68,7 +68,7 @@ module _ (rs ns : List ℕ) {s : Settings} where
         → Shows show-function-parameter-declaration parameter s rs ns room₀ p₀ room₁ p₁
     unfolding show-function-parameter-declaration itemOf parameterOf
     named k v f a b w c =
-        of-parts rs ns e (λ (x : Item). x .parameter) show-function-parameter-declaration 41 (omega arith) k f
+        of-parts rs ns e (λ (x : Item). x .parameter) _ show-function-parameter-declaration 41 (omega arith) k f
         (begin FunctionParameterDeclaration.Named shows piece show-qualification (qualification-if (bit1 (r .variant))) a shows piece show-type-specifier type b writes space w
         shows piece show-arrayed-identifier identifier c) (rw (eq-eqb (r .variant % 2) 1 v) refl) refl
 
@@ -76,7 +76,7 @@ module _ (rs ns : List ℕ) {s : Settings} where
         → Shows show-tail (several (r .count) declarator [] _∷_) s rs ns room₂ p₂ room₁ p₁ → Shows show-init-declarator-list declarators s rs ns room₀ p₀ room₁ p₁
     unfolding show-init-declarator-list itemOf declaratorsOf
     declarators-of k f a b =
-        of-parts rs ns e (λ (x : Item). x .declarators) show-init-declarator-list 42 (omega arith) k f
+        of-parts rs ns e (λ (x : Item). x .declarators) _ show-init-declarator-list 42 (omega arith) k f
         (begin InitDeclaratorList.declarators shows piece show-single-declaration single a shows piece show-tail (several (r .count) declarator [] _∷_) b) refl refl
 
     pub single-of : r .kind ≡ 43 → {room₂ room₃ room₄ : List ℕ} {p₂ p₃ p₄ : Pen} → p ≡ past rs p₀ → Shows show-fully-specified-type full-type s rs ns room₀ p room₂ p₂
@@ -84,7 +84,7 @@ module _ (rs ns : List ℕ) {s : Settings} where
         → Shows show-initialized (maybe (bit2 (r .variant)) initializer) s rs ns room₄ p₄ room₁ p₁ → Shows show-single-declaration single s rs ns room₀ p₀ room₁ p₁
     unfolding show-single-declaration itemOf singleOf
     single-of k f a n b c =
-        of-parts rs ns e (λ (x : Item). x .single) show-single-declaration 43 (omega arith) k f
+        of-parts rs ns e (λ (x : Item). x .single) _ show-single-declaration 43 (omega arith) k f
         (begin SingleDeclaration.single shows piece show-fully-specified-type full-type a given cond (bit0 (r .variant)) (some (textOf ns r)) none writes wrote n
         shows piece show-array-spec (array-if (bit1 (r .variant))) b shows piece show-initialized (maybe (bit2 (r .variant)) initializer) c) refl refl
 
@@ -92,21 +92,21 @@ module _ (rs ns : List ℕ) {s : Settings} where
         → Shows show-initialized (maybe (eqb (r .variant) 1) initializer) s rs ns room₂ p₂ room₁ p₁ → Shows show-single-declaration-no-type declarator s rs ns room₀ p₀ room₁ p₁
     unfolding show-single-declaration-no-type itemOf declaratorOf
     declarator-of k f a b =
-        of-parts rs ns e (λ (x : Item). x .declarator) show-single-declaration-no-type 44 (omega arith) k f
+        of-parts rs ns e (λ (x : Item). x .declarator) _ show-single-declaration-no-type 44 (omega arith) k f
         (begin SingleDeclarationNoType.declarator shows piece show-arrayed-identifier identifier a shows piece show-initialized (maybe (eqb (r .variant) 1) initializer) b) refl refl
 
     -- an initializer: an expression, or a list
     pub simple : r .kind ≡ 45 → r .variant ≡ 0 → p ≡ past rs p₀ → Shows show-expr expr s rs ns room₀ p room₁ p₁ → Shows show-initializer initializer s rs ns room₀ p₀ room₁ p₁
     unfolding show-initializer itemOf initializerOf
     simple k v f a =
-        of-parts rs ns e (λ (x : Item). x .initializer) show-initializer 45 (omega arith) k f (begin Initializer.Simple shows piece show-expr expr a) (rw v refl) refl
+        of-parts rs ns e (λ (x : Item). x .initializer) _ show-initializer 45 (omega arith) k f (begin Initializer.Simple shows piece show-expr expr a) (rw v refl) refl
 
     pub list-of : r .kind ≡ 45 → (r .variant ≡ 0 → ⊥) → {room₂ room₃ : List ℕ} {p₂ p₃ : Pen} → p ≡ past rs p₀ → Ran s enter-initializer-list room₀ p room₂ p₂
         → Shows (λ is. show-initializers is true) (several (r .count) initializer Initializers.no-initializers Initializers.initializers) s rs ns room₂ p₂ room₃ p₃
         → Ran s end-initializer-list room₃ p₃ room₁ p₁ → Shows show-initializer initializer s rs ns room₀ p₀ room₁ p₁
     unfolding show-initializer itemOf initializerOf
     list-of k v f o a c =
-        of-parts rs ns e (λ (x : Item). x .initializer) show-initializer 45 (omega arith) k f
+        of-parts rs ns e (λ (x : Item). x .initializer) _ show-initializer 45 (omega arith) k f
         (begin Initializer.ListOf writes wrote o shows piece (λ is. show-initializers is true) (several (r .count) initializer Initializers.no-initializers Initializers.initializers) a writes wrote c)
         (rw (ne-eqb (r .variant) 0 v) refl) refl
 
@@ -116,7 +116,7 @@ module _ (rs ns : List ℕ) {s : Settings} where
         → Shows (optional show-arrayed-identifier) (maybe (eqb (r .variant) 1) identifier) s rs ns room₇ p₇ room₁ p₁ → Shows show-block block s rs ns room₀ p₀ room₁ p₁
     unfolding show-block spell itemOf blockOf
     block-of k f a w n o b c d =
-        of-parts rs ns e (λ (x : Item). x .block) show-block 46 (omega arith) k f
+        of-parts rs ns e (λ (x : Item). x .block) _ show-block 46 (omega arith) k f
         (begin (Block.block (textOf ns r)) shows piece (λ q. show-type-qualifier q true) qualifier a writes space w writes put (Token.name (textOf ns r)) refl n writes wrote o
         shows piece show-struct-fields (several (r .count) field StructFieldSpecifiers.no-fields StructFieldSpecifiers.fields) b writes wrote c shows piece (optional show-arrayed-identifier) (maybe (eqb (r .variant) 1) identifier) d) refl refl
 
@@ -125,14 +125,14 @@ module _ (rs ns : List ℕ) {s : Settings} where
         → declarationOf ns (as-kind 47 r) (from rs ns (p₀ .next + 1)) ≡ counted ((give f and q) (from rs ns (p₀ .next + 1))) → ((x : A) → show x ++ write-declaration-terminator ≡ show-declaration (f x))
         → Shows show q s rs ns room₀ p room₂ p₂ → Ran s write-declaration-terminator room₂ p₂ room₁ p₁ → Shows show-declaration declaration s rs ns room₀ p₀ room₁ p₁
     unfolding itemOf
-    declaration-of f q show k g row h a t = of-parts rs ns e (λ (x : Item). x .declaration) show-declaration 47 (omega arith) k g (begin f shows piece show q a writes wrote t) row (h _)
+    declaration-of f q show k g row h a t = of-parts rs ns e (λ (x : Item). x .declaration) _ show-declaration 47 (omega arith) k g (begin f shows piece show q a writes wrote t) row (h _)
 
     pub precision-of : r .kind ≡ 47 → r .variant ≡ 2 → {room₂ room₃ room₄ room₅ room₆ : List ℕ} {p₂ p₃ p₄ p₅ p₆ : Pen} → p ≡ past rs p₀ → Wrote (bytes "precision") room₀ p room₂ p₂
         → Wrote (bytes " ") room₂ p₂ room₃ p₃ → Shows show-type-qualifier-spec spec s rs ns room₃ p₃ room₄ p₄ → Wrote (bytes " ") room₄ p₄ room₅ p₅ → Shows show-type-specifier type s rs ns room₅ p₅ room₆ p₆
         → Ran s write-declaration-terminator room₆ p₆ room₁ p₁ → Shows show-declaration declaration s rs ns room₀ p₀ room₁ p₁
     unfolding show-declaration spell wordText itemOf declarationOf
     precision-of k v f o w a x b t =
-        of-parts rs ns e (λ (x : Item). x .declaration) show-declaration 47 (omega arith) k f
+        of-parts rs ns e (λ (x : Item). x .declaration) _ show-declaration 47 (omega arith) k f
         (begin Declaration.Precision writes put (Token.word Word.precision) refl o writes space w shows piece show-type-qualifier-spec spec a writes space x shows piece show-type-specifier type b writes wrote t)
         (rw v refl) refl
 
@@ -140,7 +140,7 @@ module _ (rs ns : List ℕ) {s : Settings} where
         → Wrote (part ns (r .a) (r .b)) room₃ p₃ room₄ p₄ → Ran s write-declaration-terminator room₄ p₄ room₁ p₁ → Shows show-declaration declaration s rs ns room₀ p₀ room₁ p₁
     unfolding show-declaration spell wordText itemOf declarationOf
     invariant-of k v f o w n t =
-        of-parts rs ns e (λ (x : Item). x .declaration) show-declaration 47 (omega arith) k f
+        of-parts rs ns e (λ (x : Item). x .declaration) _ show-declaration 47 (omega arith) k f
         (begin (Declaration.Invariant (textOf ns r)) writes put (Token.word Word.invariant) refl o writes space w writes put (Token.name (textOf ns r)) refl n writes wrote t) (rw v refl) refl
 
   -- an initializer that is there

@@ -12,9 +12,9 @@ use Rattle.records.proofs.Arms.{NoneFrom}
 use Rattle.text.specs.Tree.{Expr, FunIdentifier, TypeSpecifierNonArray, TypeQualifierSpec}
 use Rattle.text.specs.Reading.{Item, nothing, give, _and_, counted, from, storageOf, precisionOf, interpolationOf, itemOf, exprOf, baseOf, specOf, expr, type, base, callee}
 use Rattle.text.specs.Text.{a-word, show-type-qualifier-spec}
-use Rattle.text.proofs.At.{item-at}
+use Rattle.text.proofs.At.{kind-at}
 use Rattle.leaves.specs.Qualifier.{qualifierWord}
-use Rattle.leaves.proofs.Shown.{opened}
+use Rattle.leaves.proofs.Shown.{opened-any}
 
 -- a qualifier that is one word, by its variant
 abbrev pub word-spec : ℕ → TypeQualifierSpec
@@ -65,18 +65,16 @@ module _ (records names : List ℕ) {r : Record} (i : ℕ) (e : r ≡ recordAt r
   pub no-expr-at : NoneFrom 1 16 (r .kind) → expr here ≡ nothing Expr.no-expr
   unfolding itemOf exprOf
   no-expr-at h =
-      opened records names (λ (x : Item). x .expr) i e
+      opened-any records names (λ (x : Item). x .expr) Expr.no-expr i (λ L. refl) e
       ∙ rw (ne-eqb (r .kind) 1 (h .0 .0 .0 .0 .0 .0 .0 .0 .0 .0 .0 .0 .0 .0 .0 .1), ne-eqb (r .kind) 2 (h .0 .0 .0 .0 .0 .0 .0 .0 .0 .0 .0 .0 .0 .0 .1), ne-eqb (r .kind) 3 (h .0 .0 .0 .0 .0 .0 .0 .0 .0 .0 .0 .0 .0 .1), ne-eqb (r .kind) 4 (h .0 .0 .0 .0 .0 .0 .0 .0 .0 .0 .0 .0 .1), ne-eqb (r .kind) 5 (h .0 .0 .0 .0 .0 .0 .0 .0 .0 .0 .0 .1), ne-eqb (r .kind) 6 (h .0 .0 .0 .0 .0 .0 .0 .0 .0 .0 .1), ne-eqb (r .kind) 7 (h .0 .0 .0 .0 .0 .0 .0 .0 .0 .1), ne-eqb (r .kind) 8 (h .0 .0 .0 .0 .0 .0 .0 .0 .1), ne-eqb (r .kind) 9 (h .0 .0 .0 .0 .0 .0 .0 .1), ne-eqb (r .kind) 10 (h .0 .0 .0 .0 .0 .0 .1), ne-eqb (r .kind) 11 (h .0 .0 .0 .0 .0 .1), ne-eqb (r .kind) 12 (h .0 .0 .0 .0 .1), ne-eqb (r .kind) 13 (h .0 .0 .0 .1), ne-eqb (r .kind) 14 (h .0 .0 .1), ne-eqb (r .kind) 15 (h .0 .1), ne-eqb (r .kind) 16 (h .1)) refl
 
   pub no-base-at : NoneFrom 21 3 (r .kind) → base here ≡ nothing TypeSpecifierNonArray.no-base
   unfolding itemOf baseOf
-  no-base-at h = opened records names (λ (x : Item). x .base) i e ∙ rw (ne-eqb (r .kind) 21 (h .0 .0 .1), ne-eqb (r .kind) 22 (h .0 .1), ne-eqb (r .kind) 23 (h .1)) refl
+  no-base-at h = opened-any records names (λ (x : Item). x .base) TypeSpecifierNonArray.no-base i (λ L. refl) e ∙ rw (ne-eqb (r .kind) 21 (h .0 .0 .1), ne-eqb (r .kind) 22 (h .0 .1), ne-eqb (r .kind) 23 (h .1)) refl
 
   -- a callee is a type if its record is one
   pub called-type : {k : ℕ} → k ≡ recordAt records i .kind → k ≡ 20 → callee here ≡ (give FunIdentifier.OfType and type) here
-  unfolding itemOf
-  called-type f k = ap (λ (b : Bool). cond b (give FunIdentifier.OfType and type) (give FunIdentifier.OfExpr and expr) here) (ap (λ (x : ℕ). eqb x 20) (ap (λ (x : Item). x .kind) (item-at records names i) ∙ sym f) ∙ eq-eqb _ 20 k)
+  called-type f k = ap (λ (b : Bool). cond b (give FunIdentifier.OfType and type) (give FunIdentifier.OfExpr and expr) here) (ap (λ (x : ℕ). eqb x 20) (kind-at records names i ∙ sym f) ∙ eq-eqb _ 20 k)
 
   pub called-expr : {k : ℕ} → k ≡ recordAt records i .kind → (k ≡ 20 → ⊥) → callee here ≡ (give FunIdentifier.OfExpr and expr) here
-  unfolding itemOf
-  called-expr f k = ap (λ (b : Bool). cond b (give FunIdentifier.OfType and type) (give FunIdentifier.OfExpr and expr) here) (ap (λ (x : ℕ). eqb x 20) (ap (λ (x : Item). x .kind) (item-at records names i) ∙ sym f) ∙ ne-eqb _ 20 k)
+  called-expr f k = ap (λ (b : Bool). cond b (give FunIdentifier.OfType and type) (give FunIdentifier.OfExpr and expr) here) (ap (λ (x : ℕ). eqb x 20) (kind-at records names i ∙ sym f) ∙ ne-eqb _ 20 k)

@@ -13,15 +13,15 @@ use Rattle.words.specs.Word.{Word, wordText}
 use Rattle.words.specs.Symbol.{Symbol, symbolText}
 use Rattle.records.specs.declared.Record.{Record}
 use Rattle.records.specs.Record.{recordAt, recordCount, part, textOf}
-use Rattle.records.proofs.Laws.{if-not, record-behind}
+use Rattle.records.proofs.Laws.{split, if-not}
 use Rattle.settings.specs.declared.Settings.{Settings}
 use Rattle.text.specs.Token.{Token, spell}
 use Rattle.text.specs.Command.{Command, write-binary-op, write-binary-token, write-list-separator, write-struct-field-separator, enter-block, exit-block}
 use Rattle.text.specs.Command.Command.{flush-line}
 use Rattle.text.specs.Tree.{Expr, Exprs, FunIdentifier, TypeSpecifier, TypeSpecifierNonArray, TypeSpecifiers, ArraySpecifierDimension, StructFieldSpecifier, StructFieldSpecifiers, ArrayedIdentifier, ArrayedIdentifiers, Qualification, TypeQualifierSpec, LayoutQualifier, LayoutQualifierSpec}
 use Rattle.text.specs.Text.{precedence, binary-precedence, unary-precedence, doubles, unary-symbol, binary-symbol, assignment-symbol, a-token, a-word, a-symbol, a-space, bare-if, without-types, show-type-specifier-non-array, show-type-specifier, show-type-specifiers, show-struct-fields, show-struct-field, show-array-spec, show-dimension, show-arrayed-identifier, show-arrayed-identifiers, show-qualification, show-type-qualifier, show-type-qualifier-spec, show-layout-ids, show-layout-qualifier-spec, show-expr, show-exprs, show-function-identifier, show-identifier, optional}
-use Rattle.text.specs.Reading.{Item, Read, Reader, first, nothing, made, give, counted, _and_, several, from, itemOf, exprOf, typeOf, dimensionOf, fieldOf, identifierOf, specOf, layoutIdOf, unaryOp, binaryOp, assignmentOp, storageOf, expr, type, base, array, dimension, field, identifier, qualifier, spec, layout-id, callee, array-if, qualification-if}
-use Rattle.text.proofs.At.{item-at}
+use Rattle.text.specs.Reading.{Item, Read, Reader, first, nothing, made, give, counted, _and_, several, from, itemOf, typeOf, dimensionOf, fieldOf, identifierOf, specOf, layoutIdOf, unaryOp, binaryOp, assignmentOp, storageOf, expr, type, base, array, dimension, field, identifier, qualifier, spec, layout-id, callee, array-if, qualification-if}
+use Rattle.text.proofs.At.{expr-at, first-out}
 use Rattle.pen.specs.declared.Pen.{Pen}
 use Rattle.pen.specs.Promise.{Wrote, Ran}
 use Rattle.pen.proofs.Chain.{by-token, by-space}
@@ -50,15 +50,13 @@ enclosed a b c d = ap (λ (l : List Command). l ++ d) (append-assoc a b c) ∙ a
 -- the operand of a unary operator, read where the operator stood
 sign-at : (rs ns : List ℕ) (i j v most : ℕ) → most ≡ mostUnder v (recordAt rs i) → j ≡ i
     → leb (precedence (expr (from rs ns j) .tree)) most ≡ leb (precedence (expr (from rs ns j) .tree)) unary-precedence && not (doubles (unaryOp v) (expr (from rs ns j) .tree))
-unfolding itemOf
 sign-at rs ns i j v most m h =
-    rw (h, m, ap (λ (x : Item). x .expr) (item-at rs ns i)) (under-sign ns (recordAt rs i) (from rs ns (i + 1)) v)
+    rw (h, m, expr-at rs ns i) (under-sign ns (recordAt rs i) (from rs ns (i + 1)) v)
 
 -- how strongly the expression binds that is read where its record was read
 precedence-here : (rs ns : List ℕ) (i j : ℕ) {k v q : ℕ} → i ≡ j → k ≡ recordAt rs i .kind → v ≡ recordAt rs i .variant → q ≡ precedenceOf k v → precedence (expr (from rs ns j) .tree) ≡ q
-unfolding itemOf
 precedence-here rs ns i j h hk hv hq =
-    rw (sym h) (ap (λ (x : Item). precedence (x .expr .tree)) (item-at rs ns i) ∙ precedence-at ns (recordAt rs i) (from rs ns (i + 1)) ∙ sym (rw (sym hk, sym hv) hq))
+    rw (sym h) (ap (λ (x : Read Expr). precedence (x .tree)) (expr-at rs ns i) ∙ precedence-at ns (recordAt rs i) (from rs ns (i + 1)) ∙ sym (rw (sym hk, sym hv) hq))
 
 -- a list that counts some is not empty
 some-types : (n : ℕ) → 0 < n → (L : List Item) → without-types (several n type TypeSpecifiers.no-types TypeSpecifiers.types L .tree) ≡ false
@@ -91,54 +89,59 @@ module _ (rs ns : List ℕ) {s : Settings} where
   -- a record of another kind, where the sort has one kind; what the sort's table says is `refl` where it is unfolded
   pub no-row : {A : Type 0} (sort : Item → Read A) (show : A → List Command) (k : ℕ) (row : Reader A) (x : A) {r : Record} {room : List ℕ} {p : Pen} → r ≡ recordAt rs (p .next)
       → sort (itemOf ns r (from rs ns (p .next + 1))) ≡ cond (eqb (r .kind) k) row (give x) (from rs ns (p .next + 1)) → (r .kind ≡ k → ⊥) → [] ≡ show x
-      → Shows show (λ L. sort (first L)) s rs ns room p room p
+      → Shows show (first sort x) s rs ns room p room p
   no-row sort show k row x {r = r} {p = p} e h d =
-      none-there show (λ L. sort (first L)) x (opened rs ns sort (p .next) e ∙ h ∙ ap (λ (b : Bool). cond b row (give x) (from rs ns (p .next + 1))) (ne-eqb (r .kind) k d))
+      none-there show (first sort x) x
+      (split (p .next) (recordCount rs)
+      (λ i. opened rs ns sort x (p .next) i e ∙ h ∙ ap (λ (b : Bool). cond b row (give x) (from rs ns (p .next + 1))) (ne-eqb (r .kind) k d))
+      (first-out rs ns sort x (p .next)))
 
   -- no record is left for an operand
   pub none-left : (most : ℕ) {stands : Bool} {room : List ℕ} {p : Pen} → stands ≡ ltb (p .next) (recordCount rs) → not stands ≡ true → Shows (operand most) expr s rs ns room p room p
-  unfolding show-expr precedence itemOf exprOf
+  unfolding show-expr precedence
   none-left most {stands = stands} {p = p} e f =
-      none-there (operand most) expr Expr.no-expr (ap (λ (x : Item). x .expr) (item-at rs ns (p .next)) ∙ rw (record-behind rs (p .next) (if-not rs (p .next) e (not-true stands f))) refl)
+      none-there (operand most) expr Expr.no-expr (first-out rs ns _ Expr.no-expr (p .next) (if-not rs (p .next) e (not-true stands f)))
       (sym (ap (λ (b : Bool). bare-if b []) (le-leb 0 most (omega arith))))
 
   module _ {r : Record} {room₀ room₁ : List ℕ} {p₀ p₁ : Pen} (e : r ≡ recordAt rs (p₀ .next)) where
     -- a record of kind k, read as another sort and shown as that; what the row says is `refl` where the tables are unfolded
-    pub as-sort-row : {A B : Type 0} (sub : Item → Read A) (sort : Item → Read B) (f : A → B) (show : A → List Command) (show′ : B → List Command) (k : ℕ)
-        → sort (itemOf ns (as-kind k r) (from rs ns (p₀ .next + 1))) ≡ made f (sub (itemOf ns (as-kind k r) (from rs ns (p₀ .next + 1)))) → ((x : A) → show x ≡ show′ (f x)) → r .kind ≡ k
-        → Shows show (λ L. sub (first L)) s rs ns room₀ p₀ room₁ p₁ → Shows show′ (λ L. sort (first L)) s rs ns room₀ p₀ room₁ p₁
-    as-sort-row {A = A} {B = B} sub sort f show show′ k row h i a =
+    pub as-sort-row : {A B : Type 0} (sub : Item → Read A) (a : A) (sort : Item → Read B) (b : B) (f : A → B) (show : A → List Command) (show′ : B → List Command) (k : ℕ)
+        → sort (itemOf ns (as-kind k r) (from rs ns (p₀ .next + 1))) ≡ made f (sub (itemOf ns (as-kind k r) (from rs ns (p₀ .next + 1)))) → ((x : A) → show x ≡ show′ (f x)) → 0 < k → r .kind ≡ k
+        → Shows show (first sub a) s rs ns room₀ p₀ room₁ p₁ → Shows show′ (first sort b) s rs ns room₀ p₀ room₁ p₁
+    as-sort-row {A = A} {B = B} sub a sort b f show show′ k row h l i shown =
         let L = from rs ns (p₀ .next + 1) in
-        let x = sub (first (from rs ns (p₀ .next))) in
-        let as-sub = opened rs ns sub (p₀ .next) e ∙ ap (λ (n : ℕ). sub (itemOf ns (as-kind n r) L)) i in
-        reads show′ (λ L. sort (first L)) rs ns (made f x) (opened rs ns sort (p₀ .next) e ∙ ap (λ (n : ℕ). sort (itemOf ns (as-kind n r) L)) i ∙ row ∙ ap (made f) (sym as-sub)) (h (x .tree)) refl a
+        let x = first sub a (from rs ns (p₀ .next)) in
+        let stands = standing rs k e i l in
+        let as-sub = opened rs ns sub a (p₀ .next) stands e ∙ ap (λ (n : ℕ). sub (itemOf ns (as-kind n r) L)) i in
+        reads show′ (first sort b) rs ns (made f x) (opened rs ns sort b (p₀ .next) stands e ∙ ap (λ (n : ℕ). sort (itemOf ns (as-kind n r) L)) i ∙ row ∙ ap (made f) (sym as-sub)) (h (x .tree)) refl shown
 
   module _ {r : Record} {room₀ room₁ : List ℕ} {p₀ p p₁ : Pen} (e : r ≡ recordAt rs (p₀ .next)) where
     -- a record of kind k, whose parts were shown; what its row says is `refl` where the sort's table is unfolded
-    pub of-row : {A : Type 0} (sort : Item → Read A) (show : A → List Command) (k : ℕ) (parts : Reader A) → sort (itemOf ns (as-kind k r) (from rs ns (p₀ .next + 1))) ≡ counted (parts (from rs ns (p₀ .next + 1)))
-        → 0 < k → r .kind ≡ k → p ≡ past rs p₀ → Shows show parts s rs ns room₀ p room₁ p₁ → Shows show (λ L. sort (first L)) s rs ns room₀ p₀ room₁ p₁
-    of-row sort show k parts row h f g a =
-        entered rs ns show (λ L. sort (first L)) parts (opened rs ns sort (p₀ .next) e ∙ ap (λ (n : ℕ). sort (itemOf ns (as-kind n r) (from rs ns (p₀ .next + 1)))) f ∙ row) (standing rs k e f h) g a
+    pub of-row : {A : Type 0} (sort : Item → Read A) (a : A) (show : A → List Command) (k : ℕ) (parts : Reader A) → sort (itemOf ns (as-kind k r) (from rs ns (p₀ .next + 1))) ≡ counted (parts (from rs ns (p₀ .next + 1)))
+        → 0 < k → r .kind ≡ k → p ≡ past rs p₀ → Shows show parts s rs ns room₀ p room₁ p₁ → Shows show (first sort a) s rs ns room₀ p₀ room₁ p₁
+    of-row sort a show k parts row h f g shown =
+        let stands = standing rs k e f h in
+        entered rs ns show (first sort a) parts (opened rs ns sort a (p₀ .next) stands e ∙ ap (λ (n : ℕ). sort (itemOf ns (as-kind n r) (from rs ns (p₀ .next + 1)))) f ∙ row) stands g shown
 
     -- a record of kind k, its parts shown one behind the other; what its row says is `refl` where the sort's table is unfolded, and the commands where the printer's definition is
-    pub of-parts : {A : Type 0} (sort : Item → Read A) (show : A → List Command) (k : ℕ) {f : Reader A} {x : Read A} {cs : List Command} → 0 < k → r .kind ≡ k → p ≡ past rs p₀
+    pub of-parts : {A : Type 0} (sort : Item → Read A) (a : A) (show : A → List Command) (k : ℕ) {f : Reader A} {x : Read A} {cs : List Command} → 0 < k → r .kind ≡ k → p ≡ past rs p₀
         → Partway rs ns s room₀ p f x cs room₁ p₁ → sort (itemOf ns (as-kind k r) (from rs ns (p₀ .next + 1))) ≡ counted (f (from rs ns (p₀ .next + 1))) → cs ≡ show (x .tree)
-        → Shows show (λ L. sort (first L)) s rs ns room₀ p₀ room₁ p₁
-    of-parts sort show k {f = f} h i g a row q = of-row sort show k f row h i g (so show a q)
+        → Shows show (first sort a) s rs ns room₀ p₀ room₁ p₁
+    of-parts sort a show k {f = f} h i g b row q = of-row sort a show k f row h i g (so show b q)
 
     -- a dimension without a size
     pub unsized : r .kind ≡ 25 → r .variant ≡ 0 → {room₂ : List ℕ} {p₂ : Pen} → p ≡ past rs p₀ → Wrote (bytes "[") room₀ p room₂ p₂ → Wrote (bytes "]") room₂ p₂ room₁ p₁
         → Shows show-dimension dimension s rs ns room₀ p₀ room₁ p₁
     unfolding show-dimension spell symbolText itemOf dimensionOf
     unsized k v f a b =
-        of-parts (λ (x : Item). x .dimension) show-dimension 25 (omega arith) k f
+        of-parts (λ (x : Item). x .dimension) _ show-dimension 25 (omega arith) k f
         (begin ArraySpecifierDimension.Unsized writes put (Token.symbol Symbol.left-bracket) refl a writes put (Token.symbol Symbol.right-bracket) refl b) (rw v refl) refl
 
     pub sized : r .kind ≡ 25 → (r .variant ≡ 0 → ⊥) → {room₂ room₃ : List ℕ} {p₂ p₃ : Pen} → p ≡ past rs p₀ → Wrote (bytes "[") room₀ p room₂ p₂
         → Shows (operand 17) expr s rs ns room₂ p₂ room₃ p₃ → Wrote (bytes "]") room₃ p₃ room₁ p₁ → Shows show-dimension dimension s rs ns room₀ p₀ room₁ p₁
     unfolding show-dimension spell symbolText itemOf dimensionOf
     sized k v f a x b =
-        of-parts (λ (x : Item). x .dimension) show-dimension 25 (omega arith) k f
+        of-parts (λ (x : Item). x .dimension) _ show-dimension 25 (omega arith) k f
         (begin ArraySpecifierDimension.ExplicitlySized writes put (Token.symbol Symbol.left-bracket) refl a shows piece show-expr expr (plain rs ns x) writes put (Token.symbol Symbol.right-bracket) refl b)
         (rw (ne-eqb (r .variant) 0 v) refl) refl
 
@@ -146,34 +149,34 @@ module _ (rs ns : List ℕ) {s : Settings} where
     pub id : r .kind ≡ 30 → r .variant ≡ 0 → p ≡ past rs p₀ → Wrote (part ns (r .a) (r .b)) room₀ p room₁ p₁ → Shows show-layout-qualifier-spec layout-id s rs ns room₀ p₀ room₁ p₁
     unfolding show-layout-qualifier-spec spell itemOf layoutIdOf
     id k v f w =
-        of-parts (λ (x : Item). x .layout-id) show-layout-qualifier-spec 30 (omega arith) k f (begin (LayoutQualifierSpec.Ident (textOf ns r)) writes put (Token.name (textOf ns r)) refl w) (rw v refl) refl
+        of-parts (λ (x : Item). x .layout-id) _ show-layout-qualifier-spec 30 (omega arith) k f (begin (LayoutQualifierSpec.Ident (textOf ns r)) writes put (Token.name (textOf ns r)) refl w) (rw v refl) refl
 
     pub id-is : r .kind ≡ 30 → r .variant ≡ 1 → {room₂ room₃ : List ℕ} {p₂ p₃ : Pen} → p ≡ past rs p₀ → Wrote (part ns (r .a) (r .b)) room₀ p room₂ p₂
         → Ran s (write-binary-token (Token.name (bytes "="))) room₂ p₂ room₃ p₃ → Shows (operand 17) expr s rs ns room₃ p₃ room₁ p₁ → Shows show-layout-qualifier-spec layout-id s rs ns room₀ p₀ room₁ p₁
     unfolding show-layout-qualifier-spec spell symbolText itemOf layoutIdOf
     id-is k v f w o x =
-        of-parts (λ (x : Item). x .layout-id) show-layout-qualifier-spec 30 (omega arith) k f
+        of-parts (λ (x : Item). x .layout-id) _ show-layout-qualifier-spec 30 (omega arith) k f
         (begin (LayoutQualifierSpec.IdentIs (textOf ns r)) writes put (Token.name (textOf ns r)) refl w writes wrote (by-operator Symbol.equal refl o) shows piece show-expr expr (plain rs ns x)) (rw v refl) refl
 
     pub shared : r .kind ≡ 30 → (r .variant ≡ 0 → ⊥) → (r .variant ≡ 1 → ⊥) → p ≡ past rs p₀ → Ran s (a-word (qualifierWord 9)) room₀ p room₁ p₁
         → Shows show-layout-qualifier-spec layout-id s rs ns room₀ p₀ room₁ p₁
     unfolding show-layout-qualifier-spec qualifierWord storageOf itemOf layoutIdOf
     shared k v u f w =
-        of-parts (λ (x : Item). x .layout-id) show-layout-qualifier-spec 30 (omega arith) k f (begin LayoutQualifierSpec.Shared writes wrote w) (rw (ne-eqb (r .variant) 0 v, ne-eqb (r .variant) 1 u) refl) refl
+        of-parts (λ (x : Item). x .layout-id) _ show-layout-qualifier-spec 30 (omega arith) k f (begin LayoutQualifierSpec.Shared writes wrote w) (rw (ne-eqb (r .variant) 0 v, ne-eqb (r .variant) 1 u) refl) refl
 
     -- one kind a sort
     pub ty : r .kind ≡ 20 → {room₂ : List ℕ} {p₂ : Pen} → p ≡ past rs p₀ → Shows show-type-specifier-non-array base s rs ns room₀ p room₂ p₂
         → Shows show-array-spec (array-if (eqb (r .variant) 1)) s rs ns room₂ p₂ room₁ p₁ → Shows show-type-specifier type s rs ns room₀ p₀ room₁ p₁
     unfolding show-type-specifier itemOf typeOf
     ty k f a b =
-        of-parts (λ (x : Item). x .type) show-type-specifier 20 (omega arith) k f
+        of-parts (λ (x : Item). x .type) _ show-type-specifier 20 (omega arith) k f
         (begin TypeSpecifier.type shows piece show-type-specifier-non-array base a shows piece show-array-spec (array-if (eqb (r .variant) 1)) b) refl refl
 
     pub ident : r .kind ≡ 27 → {room₂ : List ℕ} {p₂ : Pen} → p ≡ past rs p₀ → Wrote (part ns (r .a) (r .b)) room₀ p room₂ p₂
         → Shows show-array-spec (array-if (eqb (r .variant) 1)) s rs ns room₂ p₂ room₁ p₁ → Shows show-arrayed-identifier identifier s rs ns room₀ p₀ room₁ p₁
     unfolding show-arrayed-identifier spell itemOf identifierOf
     ident k f w b =
-        of-parts (λ (x : Item). x .identifier) show-arrayed-identifier 27 (omega arith) k f
+        of-parts (λ (x : Item). x .identifier) _ show-arrayed-identifier 27 (omega arith) k f
         (begin (ArrayedIdentifier.arrayed (textOf ns r)) writes put (Token.name (textOf ns r)) refl w shows piece show-array-spec (array-if (eqb (r .variant) 1)) b) refl refl
 
     pub field-of : r .kind ≡ 26 → {room₂ room₃ room₄ : List ℕ} {p₂ p₃ p₄ : Pen} → p ≡ past rs p₀ → Shows show-qualification (qualification-if (eqb (r .variant) 1)) s rs ns room₀ p room₂ p₂
@@ -181,7 +184,7 @@ module _ (rs ns : List ℕ) {s : Settings} where
         → Shows (λ is. show-arrayed-identifiers is true) (several (r .count) identifier ArrayedIdentifiers.no-identifiers ArrayedIdentifiers.identifiers) s rs ns room₄ p₄ room₁ p₁ → Shows show-struct-field field s rs ns room₀ p₀ room₁ p₁
     unfolding show-struct-field itemOf fieldOf
     field-of k f a b w c =
-        of-parts (λ (x : Item). x .field) show-struct-field 26 (omega arith) k f
+        of-parts (λ (x : Item). x .field) _ show-struct-field 26 (omega arith) k f
         (begin StructFieldSpecifier.field shows piece show-qualification (qualification-if (eqb (r .variant) 1)) a shows piece show-type-specifier type b writes space w
         shows piece (λ is. show-arrayed-identifiers is true) (several (r .count) identifier ArrayedIdentifiers.no-identifiers ArrayedIdentifiers.identifiers) c) refl refl
 
@@ -190,20 +193,20 @@ module _ (rs ns : List ℕ) {s : Settings} where
         → Shows show-type-qualifier-spec spec s rs ns room₀ p₀ room₁ p₁
     unfolding itemOf specOf
     subroutine k v f a =
-        of-row (λ (x : Item). x .spec) show-type-qualifier-spec 29 (give TypeQualifierSpec.Subroutine and several (r .count) type TypeSpecifiers.no-types TypeSpecifiers.types) (rw v refl) (omega arith) k f a
+        of-row (λ (x : Item). x .spec) _ show-type-qualifier-spec 29 (give TypeQualifierSpec.Subroutine and several (r .count) type TypeSpecifiers.no-types TypeSpecifiers.types) (rw v refl) (omega arith) k f a
 
     pub layout : r .kind ≡ 29 → r .variant ≡ 18 → p ≡ past rs p₀
         → Shows show-type-qualifier-spec (give TypeQualifierSpec.Layout and several (r .count) layout-id LayoutQualifier.no-ids LayoutQualifier.ids) s rs ns room₀ p room₁ p₁
         → Shows show-type-qualifier-spec spec s rs ns room₀ p₀ room₁ p₁
     unfolding itemOf specOf
     layout k v f a =
-        of-row (λ (x : Item). x .spec) show-type-qualifier-spec 29 (give TypeQualifierSpec.Layout and several (r .count) layout-id LayoutQualifier.no-ids LayoutQualifier.ids) (rw v refl) (omega arith) k f a
+        of-row (λ (x : Item). x .spec) _ show-type-qualifier-spec 29 (give TypeQualifierSpec.Layout and several (r .count) layout-id LayoutQualifier.no-ids LayoutQualifier.ids) (rw v refl) (omega arith) k f a
 
     pub qualifier-word : r .kind ≡ 29 → (r .variant ≡ 17 → ⊥) → (r .variant ≡ 18 → ⊥) → p ≡ past rs p₀ → Ran s (a-word (qualifierWord (r .variant))) room₀ p room₁ p₁
         → Shows show-type-qualifier-spec spec s rs ns room₀ p₀ room₁ p₁
     unfolding itemOf
     qualifier-word k v u f w =
-        of-row (λ (x : Item). x .spec) show-type-qualifier-spec 29 (give (word-spec (r .variant))) (word-row ns r (from rs ns (p₀ .next + 1)) v u) (omega arith) k f (told (word-shown (r .variant) v u) refl (wrote w))
+        of-row (λ (x : Item). x .spec) _ show-type-qualifier-spec 29 (give (word-spec (r .variant))) (word-row ns r (from rs ns (p₀ .next + 1)) v u) (omega arith) k f (told (word-shown (r .variant) v u) refl (wrote w))
 
   -- those that work behind their record, or before no record of their own
   module _ {room₀ room₁ : List ℕ} {p₀ p₁ : Pen} where

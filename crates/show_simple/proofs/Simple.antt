@@ -54,14 +54,14 @@ module _ (rs ns : List ℕ) {s : Settings} {room₀ room₁ : List ℕ} {p₀ p�
     pub asked : r .kind ≡ 69 → r .variant ≡ 0 → p ≡ past rs p₀ → Shows show-expr expr s rs ns room₀ p room₁ p₁ → Shows show-condition condition s rs ns room₀ p₀ room₁ p₁
     unfolding show-condition itemOf conditionOf
     asked k v f a =
-        of-parts rs ns e (λ (x : Item). x .condition) show-condition 69 (omega arith) k f (begin Condition.OfExpr shows piece show-expr expr a) (rw v refl) refl
+        of-parts rs ns e (λ (x : Item). x .condition) _ show-condition 69 (omega arith) k f (begin Condition.OfExpr shows piece show-expr expr a) (rw v refl) refl
 
     pub declared : r .kind ≡ 69 → (r .variant ≡ 0 → ⊥) → {room₂ room₃ room₄ room₅ : List ℕ} {p₂ p₃ p₄ p₅ : Pen} → p ≡ past rs p₀ → Shows show-fully-specified-type full-type s rs ns room₀ p room₂ p₂
         → Wrote (bytes " ") room₂ p₂ room₃ p₃ → Wrote (textOf ns r) room₃ p₃ room₄ p₄ → Ran s (write-binary-token (Token.name (bytes "="))) room₄ p₄ room₅ p₅
         → Shows show-initializer initializer s rs ns room₅ p₅ room₁ p₁ → Shows show-condition condition s rs ns room₀ p₀ room₁ p₁
     unfolding show-condition spell symbolText itemOf conditionOf
     declared k v f a w n o b =
-        of-parts rs ns e (λ (x : Item). x .condition) show-condition 69 (omega arith) k f
+        of-parts rs ns e (λ (x : Item). x .condition) _ show-condition 69 (omega arith) k f
         (begin (Condition.Assignment (textOf ns r)) shows piece show-fully-specified-type full-type a writes space w writes put (Token.name (textOf ns r)) refl n writes wrote (by-operator Symbol.equal refl o)
         shows piece show-initializer initializer b) (rw (ne-eqb (r .variant) 0 v) refl) refl
 
@@ -69,19 +69,19 @@ module _ (rs ns : List ℕ) {s : Settings} {room₀ room₁ : List ℕ} {p₀ p�
     pub starts-empty : r .kind ≡ 70 → r .variant ≡ 0 → p ≡ past rs p₀ → Ran s write-for-statement-separator room₀ p room₁ p₁ → Shows show-for-init-statement for-init s rs ns room₀ p₀ room₁ p₁
     unfolding show-for-init-statement optional itemOf forInitOf
     starts-empty k v f o =
-        of-parts rs ns e (λ (x : Item). x .for-init) show-for-init-statement 70 (omega arith) k f (begin (ForInitStatement.Expression none) writes wrote o) (rw v refl) refl
+        of-parts rs ns e (λ (x : Item). x .for-init) _ show-for-init-statement 70 (omega arith) k f (begin (ForInitStatement.Expression none) writes wrote o) (rw v refl) refl
 
     pub starts-expr : r .kind ≡ 70 → r .variant ≡ 1 → {room₂ : List ℕ} {p₂ : Pen} → p ≡ past rs p₀ → Shows show-expr expr s rs ns room₀ p room₂ p₂ → Ran s write-for-statement-separator room₂ p₂ room₁ p₁
         → Shows show-for-init-statement for-init s rs ns room₀ p₀ room₁ p₁
     unfolding show-for-init-statement optional itemOf forInitOf
     starts-expr k v f a o =
-        of-parts rs ns e (λ (x : Item). x .for-init) show-for-init-statement 70 (omega arith) k f (begin (λ (e : Expr). ForInitStatement.Expression (some e)) shows piece show-expr expr a writes wrote o) (rw v refl) refl
+        of-parts rs ns e (λ (x : Item). x .for-init) _ show-for-init-statement 70 (omega arith) k f (begin (λ (e : Expr). ForInitStatement.Expression (some e)) shows piece show-expr expr a writes wrote o) (rw v refl) refl
 
     pub starts-declared : r .kind ≡ 70 → (r .variant ≡ 0 → ⊥) → (r .variant ≡ 1 → ⊥) → p ≡ past rs p₀ → Shows show-declaration declaration s rs ns room₀ p room₁ p₁
         → Shows show-for-init-statement for-init s rs ns room₀ p₀ room₁ p₁
     unfolding show-for-init-statement itemOf forInitOf
     starts-declared k v u f a =
-        of-parts rs ns e (λ (x : Item). x .for-init) show-for-init-statement 70 (omega arith) k f (begin ForInitStatement.OfDeclaration shows piece show-declaration declaration a)
+        of-parts rs ns e (λ (x : Item). x .for-init) _ show-for-init-statement 70 (omega arith) k f (begin ForInitStatement.OfDeclaration shows piece show-declaration declaration a)
         (rw (ne-eqb (r .variant) 0 v, ne-eqb (r .variant) 1 u) refl) refl
 
   -- behind their records

@@ -26,7 +26,7 @@ use Rattle.pen.specs.Sheet.{leave}
 use Rattle.pen.specs.Promise.{Wrote, Ran}
 use Rattle.pen.proofs.Chain.{_then_, by-consume-newline, by-consume-function-definition-statement}
 use Rattle.leaves.specs.Shown.{past, Shows}
-use Rattle.leaves.proofs.Shown.{_thus_, wrote, told, reads, opened}
+use Rattle.leaves.proofs.Shown.{_thus_, wrote, told, reads, opened-any}
 use Rattle.show_expr.proofs.At.{as-kind}
 use Rattle.show_expr.proofs.Parts.{piece, begin, _writes_, _shows_, so, only}
 use Rattle.show_expr.proofs.Printers.{put, space, enclosed, none-there, of-row, as-sort-row, item-behind}
@@ -88,7 +88,7 @@ module _ (rs ns : List ℕ) {s : Settings} where
   unfolding show-statement itemOf statementOf
   no-statement-row {r = r} {p = p} e h =
       none-there rs ns (show-behind s) statement Statement.no-statement
-      (opened rs ns (λ (x : Item). x .statement) (p .next) e
+      (opened-any rs ns (λ (x : Item). x .statement) Statement.no-statement (p .next) (λ L. refl) e
       ∙ rw (ne-eqb (r .kind) 47 (h .0 .0 .0 .0 .0 .0 .0 .0 .0 .1), ne-eqb (r .kind) 60 (h .0 .0 .0 .0 .0 .0 .0 .0 .1), ne-eqb (r .kind) 61 (h .0 .0 .0 .0 .0 .0 .0 .1), ne-eqb (r .kind) 62 (h .0 .0 .0 .0 .0 .0 .1), ne-eqb (r .kind) 63 (h .0 .0 .0 .0 .0 .1), ne-eqb (r .kind) 64 (h .0 .0 .0 .0 .1), ne-eqb (r .kind) 65 (h .0 .0 .0 .1), ne-eqb (r .kind) 66 (h .0 .0 .1), ne-eqb (r .kind) 67 (h .0 .1), ne-eqb (r .kind) 68 (h .1)) refl) refl
 
   module _ {room₀ room₁ : List ℕ} {p₀ p₁ : Pen} where
@@ -97,7 +97,7 @@ module _ (rs ns : List ℕ) {s : Settings} where
       -- a statement's record by its kind: what was shown behind it; a declaration is one by itself
       pub of-kind : (k : ℕ) (parts : Reader Statement) → itemOf ns (as-kind k r) (from rs ns (p₀ .next + 1)) .statement ≡ counted (parts (from rs ns (p₀ .next + 1))) → 0 < k → r .kind ≡ k → p ≡ past rs p₀
           → Shows (show-behind s) parts s rs ns room₀ p room₁ p₁ → Shows (show-behind s) statement s rs ns room₀ p₀ room₁ p₁
-      of-kind k parts row h f g a = of-row rs ns e (λ (x : Item). x .statement) (show-behind s) k parts row h f g a
+      of-kind k parts row h f g a = of-row rs ns e (λ (x : Item). x .statement) _ (show-behind s) k parts row h f g a
 
       pub compound-row : r .kind ≡ 60 → p ≡ past rs p₀
           → Shows (show-compound-statement (collapse s) false) (statements (r .count)) s rs ns room₀ p room₁ p₁
@@ -111,7 +111,7 @@ module _ (rs ns : List ℕ) {s : Settings} where
 
     pub declaration-row : {r : Record} → r ≡ recordAt rs (p₀ .next) → r .kind ≡ 47 → Shows show-declaration declaration s rs ns room₀ p₀ room₁ p₁ → Shows (show-behind s) statement s rs ns room₀ p₀ room₁ p₁
     unfolding show-statement itemOf statementOf
-    declaration-row e k a = as-sort-row rs ns e (λ (x : Item). x .declaration) (λ (x : Item). x .statement) Statement.OfDeclaration show-declaration (show-behind s) 47 refl (λ d. refl) k a
+    declaration-row e k a = as-sort-row rs ns e (λ (x : Item). x .declaration) _ (λ (x : Item). x .statement) _ Statement.OfDeclaration show-declaration (show-behind s) 47 refl (λ d. refl) (omega arith) k a
 
     -- behind their records
     pub then-parts : (v : ℕ) → v ≡ 0 → Shows (show-statement (collapse s)) statement s rs ns room₀ p₀ room₁ p₁ → Shows (show-selection-rest-statement (collapse s)) (selectionRest v) s rs ns room₀ p₀ room₁ p₁

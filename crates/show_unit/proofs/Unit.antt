@@ -17,7 +17,7 @@ use Rattle.text.specs.Reading.{compound as body}
 use Rattle.pen.specs.declared.Pen.{Pen}
 use Rattle.pen.specs.Promise.{Ran}
 use Rattle.leaves.specs.Shown.{past, Shows}
-use Rattle.leaves.proofs.Shown.{Listed, wrote, reads, opened}
+use Rattle.leaves.proofs.Shown.{Listed, wrote, reads, opened-any}
 use Rattle.show_expr.proofs.Parts.{begin, _writes_, _shows_, piece, so}
 use Rattle.show_expr.proofs.Printers.{of-row, as-sort-row, none-there}
 use Rattle.show_simple.specs.Flushed.{behind-flush}
@@ -58,7 +58,7 @@ module _ (rs ns : List ℕ) (collapse : Bool) {s : Settings} {room₀ : List ℕ
   unfolding show-external-declaration itemOf externalOf
   undeclared d f =
       none-there rs ns (behind-flush (show-external-declaration collapse)) external ExternalDeclaration.no-external
-      (opened rs ns (λ (x : Item). x .external) (p₀ .next) refl
+      (opened-any rs ns (λ (x : Item). x .external) ExternalDeclaration.no-external (p₀ .next) (λ L. refl) refl
       ∙ rw (ne-eqb (recordAt rs (p₀ .next) .kind) 47 (λ e. d (read ∙ e)), ne-eqb (recordAt rs (p₀ .next) .kind) 81 (λ e. f (read ∙ e))) refl) refl
 
 module _ (rs ns : List ℕ) (collapse : Bool) {s : Settings} {room₀ room₁ : List ℕ} {p₀ p₁ : Pen} where
@@ -67,12 +67,12 @@ module _ (rs ns : List ℕ) (collapse : Bool) {s : Settings} {room₀ room₁ : 
     pub declared : k ≡ 47 → Shows show-declaration declaration s rs ns room₀ p₀ room₁ p₁ → Shows (behind-flush (show-external-declaration collapse)) external s rs ns room₀ p₀ room₁ p₁
     unfolding show-external-declaration itemOf externalOf
     declared e a =
-        as-sort-row rs ns refl (λ (x : Item). x .declaration) (λ (x : Item). x .external) ExternalDeclaration.OfDeclaration show-declaration (behind-flush (show-external-declaration collapse)) 47 refl (λ d. refl) (sym read ∙ e) a
+        as-sort-row rs ns refl (λ (x : Item). x .declaration) _ (λ (x : Item). x .external) _ ExternalDeclaration.OfDeclaration show-declaration (behind-flush (show-external-declaration collapse)) 47 refl (λ d. refl) (omega arith) (sym read ∙ e) a
 
     -- a function
     pub defined : k ≡ 81 → {p : Pen} → p ≡ past rs p₀ → Shows (behind-flush (show-external-declaration collapse)) function-definition s rs ns room₀ p room₁ p₁ → Shows (behind-flush (show-external-declaration collapse)) external s rs ns room₀ p₀ room₁ p₁
     unfolding itemOf externalOf
-    defined e g a = of-row rs ns refl (λ (x : Item). x .external) (behind-flush (show-external-declaration collapse)) 81 function-definition refl (omega arith) (sym read ∙ e) g a
+    defined e g a = of-row rs ns refl (λ (x : Item). x .external) _ (behind-flush (show-external-declaration collapse)) 81 function-definition refl (omega arith) (sym read ∙ e) g a
 
   -- the flush before it
   pub flushed : {room₂ : List ℕ} {p₂ : Pen} → Ran s (flush-line ∷ []) room₀ p₀ room₂ p₂ → Shows (behind-flush (show-external-declaration collapse)) external s rs ns room₂ p₂ room₁ p₁
@@ -98,4 +98,4 @@ module _ (rs ns : List ℕ) (collapse : Bool) {s : Settings} {room₀ room₁ : 
       → Shows show (statements 0) s rs ns room₀ p₀ room₁ p₁ → Shows show body s rs ns room₀ p₀ room₁ p₁
   unfolding itemOf compoundOf several
   no-body {r = r} e d show a =
-      reads show body rs ns (nothing Statements.no-statements) (opened rs ns (λ (x : Item). x .compound) (p₀ .next) e ∙ rw (ne-eqb (r .kind) 60 d) refl) refl refl a
+      reads show body rs ns (nothing Statements.no-statements) (opened-any rs ns (λ (x : Item). x .compound) Statements.no-statements (p₀ .next) (λ L. refl) e ∙ rw (ne-eqb (r .kind) 60 d) refl) refl refl a

@@ -7,10 +7,10 @@ use native.Mathlib.Nat.{add-zero, zero-add}
 use lib.Dec.{eqb, eqb·suc-suc, eqb·suc-zero}
 use Rattle.text.specs.Text.{single-item}
 use lib.ListN.{drop}
-use Rattle.records.specs.Record.{recordAt, recordCount}
+use Rattle.records.specs.Record.{recordAt, recordCount, no-record}
 use Rattle.records.proofs.Laws.{split, record-behind}
-use Rattle.text.specs.Tree.{Statements}
-use Rattle.text.specs.Reading.{Read, Item, Reader, first, items, itemOf, from, itemAt, applied, _and_, give, several, exprOf, typeOf, baseOf, arrayOf, dimensionOf, fieldOf, identifierOf, qualifierOf, specOf, layoutIdOf, fullTypeOf, prototypeOf, parameterOf, declaratorsOf, singleOf, declaratorOf, initializerOf, blockOf, declarationOf, compoundOf, statementOf, conditionOf, forInitOf, externalOf, unitOf, statement, made}
+use Rattle.text.specs.Tree.{Expr, Statements}
+use Rattle.text.specs.Reading.{Read, Item, Reader, nothing, first, first-kind, items, itemOf, exprOf, from, expr, applied, _and_, give, several, statement, made}
 
 module _ (rs ns : List ℕ) where
   from-at : (n i : ℕ) → recordCount rs - i ≡ n → from rs ns i ≡ items n rs ns i
@@ -29,10 +29,29 @@ module _ (rs ns : List ℕ) where
   unfolding items
   from-out i h = from-at 0 i (omega arith)
 
-  -- inside and outside
-  pub item-at : (i : ℕ) → itemAt rs ns i ≡ itemOf ns (recordAt rs i) (from rs ns (i + 1))
-  unfolding first itemOf exprOf typeOf baseOf arrayOf dimensionOf fieldOf identifierOf qualifierOf specOf layoutIdOf fullTypeOf prototypeOf parameterOf declaratorsOf singleOf declaratorOf initializerOf blockOf declarationOf compoundOf statementOf conditionOf forInitOf externalOf unitOf
-  item-at i = split i (recordCount rs) (λ h. rw (from-in i h) refl) (λ h. rw (from-out i h, record-behind rs i h) refl)
+  -- a record that stands there, as one sort
+  pub first-in : {A : Type 0} (sort : Item → Read A) (a : A) (i : ℕ) → i < recordCount rs → first sort a (from rs ns i) ≡ sort (itemOf ns (recordAt rs i) (from rs ns (i + 1)))
+  unfolding first
+  first-in sort a i h = rw (from-in i h) refl
+
+  -- no record stands there
+  pub first-out : {A : Type 0} (sort : Item → Read A) (a : A) (i : ℕ) → recordCount rs ≤ i → first sort a (from rs ns i) ≡ nothing a
+  unfolding first
+  first-out sort a i h = rw (from-out i h) refl
+
+  -- inside and outside, where a record of zeros is none of the sort
+  pub item-at : {A : Type 0} (sort : Item → Read A) (a : A) (i : ℕ) → ((L : List Item) → sort (itemOf ns no-record L) ≡ nothing a)
+      → first sort a (from rs ns i) ≡ sort (itemOf ns (recordAt rs i) (from rs ns (i + 1)))
+  item-at sort a i e = split i (recordCount rs) (first-in sort a i)
+      (λ h. first-out sort a i h ∙ sym (rw (record-behind rs i h) (e (from rs ns (i + 1)))))
+
+  pub expr-at : (i : ℕ) → expr (from rs ns i) ≡ exprOf ns (recordAt rs i) (from rs ns (i + 1))
+  unfolding itemOf exprOf
+  expr-at i = item-at (λ (x : Item). x .expr) Expr.no-expr i (λ L. refl)
+
+  pub kind-at : (i : ℕ) → first-kind (from rs ns i) ≡ recordAt rs i .kind
+  unfolding first-kind itemOf
+  kind-at i = split i (recordCount rs) (λ h. rw (from-in i h) refl) (λ h. rw (from-out i h, record-behind rs i h) refl)
 
   pub from-drop : (k i : ℕ) → drop k (from rs ns i) ≡ from rs ns (i + k)
   from-drop zero i = rw (add-zero i) refl

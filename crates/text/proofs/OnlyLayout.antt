@@ -21,7 +21,7 @@ use Rattle.text.specs.Command.Command.{token, space, space-if, space-at-
 use Rattle.text.specs.Pen.{indentation, indentOf, lineOf, whitespaceText, written, after, text}
 use Rattle.text.specs.Visible.{tokenOf, tokensOf, spelled, blank, visible}
 use Rattle.text.specs.Text.{show-expr, show-translation-unit}
-use Rattle.text.specs.Reading.{itemAt}
+use Rattle.text.specs.Reading.{expr, unit, from}
 use Rattle.text.specs.Whole.{unitText, exprText}
 
 visible-cons : (p : Bool) (b : ℕ) (xs ys : List ℕ) → cond p (xs ++ ys) (b ∷ (xs ++ ys)) ≡ cond p xs (b ∷ xs) ++ ys
@@ -106,12 +106,12 @@ collapseOf s = settingsOf s .«collapse_single_item_compound_statements»
 pub only-layout : (s t records names : List ℕ) → collapseOf s ≡ collapseOf t → visible (unitText s records names) ≡ visible (unitText t records names)
 unfolding unitText
 only-layout s t records names e =
-    text-tokens (settingsOf s) (show-translation-unit (collapseOf s) (itemAt records names 0 .unit .tree)) fresh
-    ∙ ap (λ (c : Bool). visible (spelled (tokensOf (show-translation-unit c (itemAt records names 0 .unit .tree))))) e
-    ∙ sym (text-tokens (settingsOf t) (show-translation-unit (collapseOf t) (itemAt records names 0 .unit .tree)) fresh)
+    text-tokens (settingsOf s) (show-translation-unit (collapseOf s) (unit (from records names 0) .tree)) fresh
+    ∙ ap (λ (c : Bool). visible (spelled (tokensOf (show-translation-unit c (unit (from records names 0) .tree))))) e
+    ∙ sym (text-tokens (settingsOf t) (show-translation-unit (collapseOf t) (unit (from records names 0) .tree)) fresh)
 
 pub only-layout-expr : (s t records names : List ℕ) → visible (exprText s records names) ≡ visible (exprText t records names)
 unfolding exprText
 only-layout-expr s t records names =
-    text-tokens (settingsOf s) (show-expr (itemAt records names 0 .expr .tree)) fresh
-    ∙ sym (text-tokens (settingsOf t) (show-expr (itemAt records names 0 .expr .tree)) fresh)
+    text-tokens (settingsOf s) (show-expr (expr (from records names 0) .tree)) fresh
+    ∙ sym (text-tokens (settingsOf t) (show-expr (expr (from records names 0) .tree)) fresh)

@@ -49,42 +49,19 @@ pub record Item : Type 0 where
 abbrev pub nothing : {A : Type 0} → A → Read A
 nothing a = record { tree = a; size = 0 }
 
-abbrev pub no-item : Item
-no-item = record {
-  kind = 0;
-  expr = nothing Expr.no-expr;
-  type = nothing TypeSpecifier.no-type;
-  base = nothing TypeSpecifierNonArray.no-base;
-  array = nothing ArraySpecifier.no-dimensions;
-  dimension = nothing ArraySpecifierDimension.no-dimension;
-  field = nothing StructFieldSpecifier.no-field;
-  identifier = nothing ArrayedIdentifier.no-identifier;
-  qualifier = nothing TypeQualifier.no-specs;
-  spec = nothing TypeQualifierSpec.no-spec;
-  layout-id = nothing LayoutQualifierSpec.no-id;
-  full-type = nothing FullySpecifiedType.no-full-type;
-  prototype = nothing FunctionPrototype.no-prototype;
-  parameter = nothing FunctionParameterDeclaration.no-parameter;
-  declarators = nothing InitDeclaratorList.no-declarators;
-  single = nothing SingleDeclaration.no-single;
-  declarator = nothing SingleDeclarationNoType.no-declarator;
-  initializer = nothing Initializer.no-initializer;
-  block = nothing Block.no-block;
-  declaration = nothing Declaration.no-declaration;
-  compound = nothing Statements.no-statements;
-  statement = nothing Statement.no-statement;
-  condition = nothing Condition.no-condition;
-  for-init = nothing ForInitStatement.no-for-init;
-  external = nothing ExternalDeclaration.no-external;
-  unit = nothing [];
-}
-
 -- A reading of the records from a place on: they are given as what they are, nearest first.
 abbrev pub Reader : Type 0 → Type 0
 Reader A = List Item → Read A
 
-unfoldable pub first : List Item → Item
-first L = getD L 0 no-item
+-- what stands first, as one sort; where no record is left, the `no-..` of that sort
+unfoldable pub first : {A : Type 0} → (Item → Read A) → A → Reader A
+first sort a [] = nothing a
+first sort a (x ∷ L) = sort x
+
+-- its kind, 0 where no record is left
+unfoldable pub first-kind : List Item → ℕ
+first-kind [] = 0
+first-kind (x ∷ L) = x .kind
 
 -- `give t`: the tree t, for which no record is read. `give f and p and q ..`: the tree f x y .. of the parts x, y, .. that p, q, .. read, one behind
 -- the other.
@@ -145,83 +122,83 @@ by-variant v (r ∷ rs) last = cond (eqb v (r .number)) (r .reading) (by-variant
 
 -- the parts: what stands first, as each sort (and `..Of`, below, is the reading of a record as that sort)
 abbrev pub expr : Reader Expr
-expr L = first L .expr
+expr = first (λ x. x .expr) Expr.no-expr
 
 abbrev pub type : Reader TypeSpecifier
-type L = first L .type
+type = first (λ x. x .type) TypeSpecifier.no-type
 
 abbrev pub base : Reader TypeSpecifierNonArray
-base L = first L .base
+base = first (λ x. x .base) TypeSpecifierNonArray.no-base
 
 abbrev pub array : Reader ArraySpecifier
-array L = first L .array
+array = first (λ x. x .array) ArraySpecifier.no-dimensions
 
 abbrev pub dimension : Reader ArraySpecifierDimension
-dimension L = first L .dimension
+dimension = first (λ x. x .dimension) ArraySpecifierDimension.no-dimension
 
 abbrev pub field : Reader StructFieldSpecifier
-field L = first L .field
+field = first (λ x. x .field) StructFieldSpecifier.no-field
 
 abbrev pub identifier : Reader ArrayedIdentifier
-identifier L = first L .identifier
+identifier = first (λ x. x .identifier) ArrayedIdentifier.no-identifier
 
 abbrev pub qualifier : Reader TypeQualifier
-qualifier L = first L .qualifier
+qualifier = first (λ x. x .qualifier) TypeQualifier.no-specs
 
 abbrev pub spec : Reader TypeQualifierSpec
-spec L = first L .spec
+spec = first (λ x. x .spec) TypeQualifierSpec.no-spec
 
 abbrev pub layout-id : Reader LayoutQualifierSpec
-layout-id L = first L .layout-id
+layout-id = first (λ x. x .layout-id) LayoutQualifierSpec.no-id
 
 abbrev pub full-type : Reader FullySpecifiedType
-full-type L = first L .full-type
+full-type = first (λ x. x .full-type) FullySpecifiedType.no-full-type
 
 abbrev pub prototype : Reader FunctionPrototype
-prototype L = first L .prototype
+prototype = first (λ x. x .prototype) FunctionPrototype.no-prototype
 
 abbrev pub parameter : Reader FunctionParameterDeclaration
-parameter L = first L .parameter
+parameter = first (λ x. x .parameter) FunctionParameterDeclaration.no-parameter
 
 abbrev pub declarators : Reader InitDeclaratorList
-declarators L = first L .declarators
+declarators = first (λ x. x .declarators) InitDeclaratorList.no-declarators
 
 abbrev pub single : Reader SingleDeclaration
-single L = first L .single
+single = first (λ x. x .single) SingleDeclaration.no-single
 
 abbrev pub declarator : Reader SingleDeclarationNoType
-declarator L = first L .declarator
+declarator = first (λ x. x .declarator) SingleDeclarationNoType.no-declarator
 
 abbrev pub initializer : Reader Initializer
-initializer L = first L .initializer
+initializer = first (λ x. x .initializer) Initializer.no-initializer
 
 abbrev pub block : Reader Block
-block L = first L .block
+block = first (λ x. x .block) Block.no-block
 
 abbrev pub declaration : Reader Declaration
-declaration L = first L .declaration
+declaration = first (λ x. x .declaration) Declaration.no-declaration
 
 abbrev pub compound : Reader Statements
-compound L = first L .compound
+compound = first (λ x. x .compound) Statements.no-statements
 
 abbrev pub statement : Reader Statement
-statement L = first L .statement
+statement = first (λ x. x .statement) Statement.no-statement
 
 abbrev pub condition : Reader Condition
-condition L = first L .condition
+condition = first (λ x. x .condition) Condition.no-condition
 
 abbrev pub for-init : Reader ForInitStatement
-for-init L = first L .for-init
+for-init = first (λ x. x .for-init) ForInitStatement.no-for-init
 
 abbrev pub external : Reader ExternalDeclaration
-external L = first L .external
+external = first (λ x. x .external) ExternalDeclaration.no-external
 
 abbrev pub unit : Reader TranslationUnit
-unit L = first L .unit
+unit = first (λ x. x .unit) []
 
 -- a type or an expression
 abbrev pub callee : Reader FunIdentifier
-callee L = cond (eqb (first L .kind) 20) (give FunIdentifier.OfType and type) (give FunIdentifier.OfExpr and expr) L
+callee L = cond (eqb (first-kind L) 20) (give FunIdentifier.OfType and type) (give FunIdentifier.OfExpr and expr) L
 
 -- dimensions that are there or not, and likewise a qualifier
 abbrev pub array-if : Bool → Reader ArraySpecifier
@@ -460,7 +437,3 @@ items (suc n) records names i = onto names (recordAt records i) (items n records
 -- record i and those behind it
 unfoldable pub from : List ℕ → List ℕ → ℕ → List Item
 from records names i = items (recordCount records - i) records names i
-
--- what stands at record i
-abbrev pub itemAt : List ℕ → List ℕ → ℕ → Item
-itemAt records names i = first (from records names i)

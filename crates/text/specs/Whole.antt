@@ -5,13 +5,13 @@ use Rattle.settings.specs.Settings.{settingsOf}
 use Rattle.settings.specs.State.{fresh}
 use Rattle.text.specs.Pen.{text}
 use Rattle.text.specs.Text.{show-expr, show-translation-unit}
-use Rattle.text.specs.Reading.{itemAt}
+use Rattle.text.specs.Reading.{expr, unit, from}
 
 -- settings out of range are refused before they are asked (01, refusal 1)
 unfoldable pub unitText : (settings records names : List ℕ) → List ℕ
 unitText settings records names =
     let s = settingsOf settings
-    in text s (show-translation-unit (s .«collapse_single_item_compound_statements») (itemAt records names 0 .unit .tree)) fresh
+    in text s (show-translation-unit (s .«collapse_single_item_compound_statements») (unit (from records names 0) .tree)) fresh
 
 unfoldable pub exprText : (settings records names : List ℕ) → List ℕ
-exprText settings records names = text (settingsOf settings) (show-expr (itemAt records names 0 .expr .tree)) fresh
+exprText settings records names = text (settingsOf settings) (show-expr (expr (from records names 0) .tree)) fresh

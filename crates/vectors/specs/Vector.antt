@@ -10,7 +10,7 @@ use Prim.Native.String.{String}
 use lib.Dec.{ltb}
 use Rattle.words.specs.Bytes.{bytes}
 use Rattle.records.specs.Record.{recordCount}
-use Rattle.text.specs.Reading.{itemAt}
+use Rattle.text.specs.Reading as Reading
 use Rattle.text.specs.Case.{Case, defined}
 
 -- the bytes of a text of pairs of hexadecimal digits
@@ -39,7 +39,7 @@ abbrev pub joined-expr : String → String → String → String → Case
 joined-expr = case false (some true)
 
 abbrev pub sizeRead : Case → ℕ
-sizeRead c = cond (c .is-unit) (itemAt (c .records) (c .names) 0 .unit .size) (itemAt (c .records) (c .names) 0 .expr .size)
+sizeRead c = cond (c .is-unit) (Reading.unit (Reading.from (c .records) (c .names) 0) .size) (Reading.expr (Reading.from (c .records) (c .names) 0) .size)
 
 pub record Vector (c : Case) : Type 0 where
   pub outcome : defined c ≡ c .outcome

@@ -28,7 +28,7 @@ show-compound-statement-requires-2 c κs = search needs
 
 returns-2 : tie.Need-returns-2
 unfolding itemOf compoundOf
-returns-2 c = of-row (c .before .before .before .before .before .before .before .before .before .before .before .args .records .now) (c .before .before .before .before .before .before .before .before .before .before .before .args .names .now) (c .before .before .before .before .before .before .before .record-at .ensures) (λ (x : Item). x .compound) (show-compound-statement (c .before .before .before .before .before .before .before .before .before .before .before .args .s .«collapse_single_item_compound_statements») true) 60 (statements (c .before .before .before .before .before .before .before .record-at .result .count)) refl (omega arith) (c .before .before .before .before .before .if1 .left) (c .before .before .before .before .past .ensures) (c .before .before .show-compound-statement2 .ensures)
+returns-2 c = of-row (c .before .before .before .before .before .before .before .before .before .before .before .args .records .now) (c .before .before .before .before .before .before .before .before .before .before .before .args .names .now) (c .before .before .before .before .before .before .before .record-at .ensures) (λ (x : Item). x .compound) _ (show-compound-statement (c .before .before .before .before .before .before .before .before .before .before .before .args .s .«collapse_single_item_compound_statements») true) 60 (statements (c .before .before .before .before .before .before .before .record-at .result .count)) refl (omega arith) (c .before .before .before .before .before .if1 .left) (c .before .before .before .before .past .ensures) (c .before .before .show-compound-statement2 .ensures)
 
 same-length : tie.Need-same-length
 same-length c = shown-length (returns c)

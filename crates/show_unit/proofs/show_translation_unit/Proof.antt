@@ -45,7 +45,7 @@ loop-again c = alike (externals (c .before .before .before .before .before .befo
 
 returns-2 : tie.Need-returns-2 Inv-loop μ-loop
 unfolding itemOf unitOf
-returns-2 c = of-row (c .before .before .before .before .before .before .before .before .before .args .records .now) (c .before .before .before .before .before .before .before .before .before .args .names .now) (c .before .before .before .before .before .record-at .ensures) (λ (x : Item). x .unit) (show-translation-unit (c .before .before .before .before .before .before .before .before .before .args .s .«collapse_single_item_compound_statements»)) 80 (several (c .before .before .before .before .before .record-at .result .count) an-external [] _∷_) refl (omega arith) (c .before .before .before .if1 .left) (c .before .before .past .ensures) (done (externals (c .before .before .before .before .before .before .before .before .before .args .s .«collapse_single_item_compound_statements»)) (c .before .before .before .before .before .before .before .before .before .args .s) (c .before .before .before .before .before .before .before .before .before .args .records .now) (c .before .before .before .before .before .before .before .before .before .args .names .now) (c .before .loop .inv) (c .loop-test .left))
+returns-2 c = of-row (c .before .before .before .before .before .before .before .before .before .args .records .now) (c .before .before .before .before .before .before .before .before .before .args .names .now) (c .before .before .before .before .before .record-at .ensures) (λ (x : Item). x .unit) _ (show-translation-unit (c .before .before .before .before .before .before .before .before .before .args .s .«collapse_single_item_compound_statements»)) 80 (several (c .before .before .before .before .before .record-at .result .count) an-external [] _∷_) refl (omega arith) (c .before .before .before .if1 .left) (c .before .before .past .ensures) (done (externals (c .before .before .before .before .before .before .before .before .before .args .s .«collapse_single_item_compound_statements»)) (c .before .before .before .before .before .before .before .before .before .args .s) (c .before .before .before .before .before .before .before .before .before .args .records .now) (c .before .before .before .before .before .before .before .before .before .args .names .now) (c .before .loop .inv) (c .loop-test .left))
 
 same-length : tie.Need-same-length Inv-loop μ-loop
 same-length c = shown-length (returns-2 c)

@@ -54,7 +54,7 @@ loop-again t c = alike Lists.dimensions (c .before .before .before .before .befo
 
 pub returns-2 : (t : ℕ) → array-lts.Need-returns-2 (calls t) (array-at t) array.Post Inv-loop μ-loop
 unfolding itemOf arrayOf
-returns-2 t c = Printers.of-row (c .before .before .before .before .before .before .before .before .before .args .records .now) (c .before .before .before .before .before .before .before .before .before .args .names .now) (c .before .before .before .before .before .record-at .ensures) (λ (i : Item). i .array) show-array-spec 24 (several (c .before .before .before .before .before .record-at .result .count) dimension-part ArraySpecifier.no-dimensions ArraySpecifier.dimensions) refl (omega arith) (c .before .before .before .if1 .left) (c .before .before .past .ensures) (done Lists.dimensions (c .before .before .before .before .before .before .before .before .before .args .s) (c .before .before .before .before .before .before .before .before .before .args .records .now) (c .before .before .before .before .before .before .before .before .before .args .names .now) (c .before .loop .inv) (c .loop-test .left))
+returns-2 t c = Printers.of-row (c .before .before .before .before .before .before .before .before .before .args .records .now) (c .before .before .before .before .before .before .before .before .before .args .names .now) (c .before .before .before .before .before .record-at .ensures) (λ (i : Item). i .array) _ show-array-spec 24 (several (c .before .before .before .before .before .record-at .result .count) dimension-part ArraySpecifier.no-dimensions ArraySpecifier.dimensions) refl (omega arith) (c .before .before .before .if1 .left) (c .before .before .past .ensures) (done Lists.dimensions (c .before .before .before .before .before .before .before .before .before .args .s) (c .before .before .before .before .before .before .before .before .before .args .records .now) (c .before .before .before .before .before .before .before .before .before .args .names .now) (c .before .loop .inv) (c .loop-test .left))
 
 pub same-length : (t : ℕ) → array-lts.Need-same-length (calls t) (array-at t) array.Post Inv-loop μ-loop
 same-length t c = shown-length (returns-2 t c)

@@ -104,67 +104,67 @@ comma-requires t c κs = (omega (arith, c .before .before .before .before .befor
 
 pub returns : (t : ℕ) → bare-lts.Need-returns (calls t) (bare-at t) bare.Post
 unfolding show-expr spell itemOf exprOf
-returns t c = Printers.of-row (c .before .before .before .before .before .before .before .before .before .before .args .records .now) (c .before .before .before .before .before .before .before .before .before .before .args .names .now) (c .before .before .before .before .before .before .record-at .ensures) (λ (i : Item). i .expr) show-expr 1 (give (Expr.Variable (textOf (c .before .before .before .before .before .before .before .before .before .before .args .names .now) (c .before .before .before .before .before .before .record-at .result)))) refl (omega arith) (c .before .before .before .before .match .keys1) (c .before .before .before .before .before .past .ensures) (Printers.put (Token.name (textOf (c .before .before .before .before .before .before .before .before .before .before .args .names .now) (c .before .before .before .before .before .before .record-at .result))) refl (c .before .before .write-name .ensures))
+returns t c = Printers.of-row (c .before .before .before .before .before .before .before .before .before .before .args .records .now) (c .before .before .before .before .before .before .before .before .before .before .args .names .now) (c .before .before .before .before .before .before .record-at .ensures) (λ (i : Item). i .expr) _ show-expr 1 (give (Expr.Variable (textOf (c .before .before .before .before .before .before .before .before .before .before .args .names .now) (c .before .before .before .before .before .before .record-at .result)))) refl (omega arith) (c .before .before .before .before .match .keys1) (c .before .before .before .before .before .past .ensures) (Printers.put (Token.name (textOf (c .before .before .before .before .before .before .before .before .before .before .args .names .now) (c .before .before .before .before .before .before .record-at .result))) refl (c .before .before .write-name .ensures))
 
 pub returns-2 : (t : ℕ) → bare-lts.Need-returns-2 (calls t) (bare-at t) bare.Post
 unfolding show-expr itemOf exprOf
-returns-2 t c = Printers.of-row (c .before .before .before .before .before .before .before .before .before .before .args .records .now) (c .before .before .before .before .before .before .before .before .before .before .args .names .now) (c .before .before .before .before .before .before .record-at .ensures) (λ (i : Item). i .expr) show-expr 2 (give (Expr.IntConst (c .before .before .before .before .before .before .record-at .result .a))) refl (omega arith) (c .before .before .before .before .match .keys2) (c .before .before .before .before .before .past .ensures) (wrote (c .before .before .write-signed .ensures (c .before .before .before .before .before .before .before .before .before .before .args .s)))
+returns-2 t c = Printers.of-row (c .before .before .before .before .before .before .before .before .before .before .args .records .now) (c .before .before .before .before .before .before .before .before .before .before .args .names .now) (c .before .before .before .before .before .before .record-at .ensures) (λ (i : Item). i .expr) _ show-expr 2 (give (Expr.IntConst (c .before .before .before .before .before .before .record-at .result .a))) refl (omega arith) (c .before .before .before .before .match .keys2) (c .before .before .before .before .before .past .ensures) (wrote (c .before .before .write-signed .ensures (c .before .before .before .before .before .before .before .before .before .before .args .s)))
 
 pub returns-3 : (t : ℕ) → bare-lts.Need-returns-3 (calls t) (bare-at t) bare.Post
 unfolding show-expr itemOf exprOf
-returns-3 t c = Printers.of-row (c .before .before .before .before .before .before .before .before .before .before .before .args .records .now) (c .before .before .before .before .before .before .before .before .before .before .before .args .names .now) (c .before .before .before .before .before .before .before .record-at .ensures) (λ (i : Item). i .expr) show-expr 3 (give (Expr.UIntConst (c .before .before .before .before .before .before .before .record-at .result .a))) refl (omega arith) (c .before .before .before .before .before .match .keys3) (c .before .before .before .before .before .before .past .ensures) (Printers.put (Token.uint (c .before .before .before .before .before .before .before .record-at .result .a)) refl (c .before .before .write-uint .ensures))
+returns-3 t c = Printers.of-row (c .before .before .before .before .before .before .before .before .before .before .before .args .records .now) (c .before .before .before .before .before .before .before .before .before .before .before .args .names .now) (c .before .before .before .before .before .before .before .record-at .ensures) (λ (i : Item). i .expr) _ show-expr 3 (give (Expr.UIntConst (c .before .before .before .before .before .before .before .record-at .result .a))) refl (omega arith) (c .before .before .before .before .before .match .keys3) (c .before .before .before .before .before .before .past .ensures) (Printers.put (Token.uint (c .before .before .before .before .before .before .before .record-at .result .a)) refl (c .before .before .write-uint .ensures))
 
 pub returns-4 : (t : ℕ) → bare-lts.Need-returns-4 (calls t) (bare-at t) bare.Post
 unfolding show-expr itemOf exprOf
-returns-4 t c = Printers.of-row (c .before .before .before .before .before .before .before .before .before .before .args .records .now) (c .before .before .before .before .before .before .before .before .before .before .args .names .now) (c .before .before .before .before .before .before .record-at .ensures) (λ (i : Item). i .expr) show-expr 4 (give (Expr.BoolConst (eqb (c .before .before .before .before .before .before .record-at .result .variant) 1))) refl (omega arith) (c .before .before .before .before .match .keys4) (c .before .before .before .before .before .past .ensures) (wrote (c .before .before .show-bool .ensures (c .before .before .before .before .before .before .before .before .before .before .args .s)))
+returns-4 t c = Printers.of-row (c .before .before .before .before .before .before .before .before .before .before .args .records .now) (c .before .before .before .before .before .before .before .before .before .before .args .names .now) (c .before .before .before .before .before .before .record-at .ensures) (λ (i : Item). i .expr) _ show-expr 4 (give (Expr.BoolConst (eqb (c .before .before .before .before .before .before .record-at .result .variant) 1))) refl (omega arith) (c .before .before .before .before .match .keys4) (c .before .before .before .before .before .past .ensures) (wrote (c .before .before .show-bool .ensures (c .before .before .before .before .before .before .before .before .before .before .args .s)))
 
 pub returns-5 : (t : ℕ) → bare-lts.Need-returns-5 (calls t) (bare-at t) bare.Post
 unfolding show-expr itemOf exprOf
-returns-5 t c = Printers.of-row (c .before .before .before .before .before .before .before .before .before .before .before .args .records .now) (c .before .before .before .before .before .before .before .before .before .before .before .args .names .now) (c .before .before .before .before .before .before .before .record-at .ensures) (λ (i : Item). i .expr) show-expr 5 (give (Expr.FloatConst (textOf (c .before .before .before .before .before .before .before .before .before .before .before .args .names .now) (c .before .before .before .before .before .before .before .record-at .result)))) refl (omega arith) (c .before .before .before .before .before .match .keys5) (c .before .before .before .before .before .before .past .ensures) (Printers.put (Token.float (textOf (c .before .before .before .before .before .before .before .before .before .before .before .args .names .now) (c .before .before .before .before .before .before .before .record-at .result))) (ap (λ (t : List ℕ). spell (Token.float t)) (c .before .before .before .part-of .ensures)) (c .before .before .write-float .ensures))
+returns-5 t c = Printers.of-row (c .before .before .before .before .before .before .before .before .before .before .before .args .records .now) (c .before .before .before .before .before .before .before .before .before .before .before .args .names .now) (c .before .before .before .before .before .before .before .record-at .ensures) (λ (i : Item). i .expr) _ show-expr 5 (give (Expr.FloatConst (textOf (c .before .before .before .before .before .before .before .before .before .before .before .args .names .now) (c .before .before .before .before .before .before .before .record-at .result)))) refl (omega arith) (c .before .before .before .before .before .match .keys5) (c .before .before .before .before .before .before .past .ensures) (Printers.put (Token.float (textOf (c .before .before .before .before .before .before .before .before .before .before .before .args .names .now) (c .before .before .before .before .before .before .before .record-at .result))) (ap (λ (t : List ℕ). spell (Token.float t)) (c .before .before .before .part-of .ensures)) (c .before .before .write-float .ensures))
 
 pub returns-6 : (t : ℕ) → bare-lts.Need-returns-6 (calls t) (bare-at t) bare.Post
 unfolding show-expr itemOf exprOf
-returns-6 t c = Printers.of-row (c .before .before .before .before .before .before .before .before .before .before .before .args .records .now) (c .before .before .before .before .before .before .before .before .before .before .before .args .names .now) (c .before .before .before .before .before .before .before .record-at .ensures) (λ (i : Item). i .expr) show-expr 6 (give (Expr.DoubleConst (textOf (c .before .before .before .before .before .before .before .before .before .before .before .args .names .now) (c .before .before .before .before .before .before .before .record-at .result)))) refl (omega arith) (c .before .before .before .before .before .match .keys6) (c .before .before .before .before .before .before .past .ensures) (Printers.put (Token.double (textOf (c .before .before .before .before .before .before .before .before .before .before .before .args .names .now) (c .before .before .before .before .before .before .before .record-at .result))) (ap (λ (t : List ℕ). spell (Token.double t)) (c .before .before .before .part-of2 .ensures)) (c .before .before .write-double .ensures))
+returns-6 t c = Printers.of-row (c .before .before .before .before .before .before .before .before .before .before .before .args .records .now) (c .before .before .before .before .before .before .before .before .before .before .before .args .names .now) (c .before .before .before .before .before .before .before .record-at .ensures) (λ (i : Item). i .expr) _ show-expr 6 (give (Expr.DoubleConst (textOf (c .before .before .before .before .before .before .before .before .before .before .before .args .names .now) (c .before .before .before .before .before .before .before .record-at .result)))) refl (omega arith) (c .before .before .before .before .before .match .keys6) (c .before .before .before .before .before .before .past .ensures) (Printers.put (Token.double (textOf (c .before .before .before .before .before .before .before .before .before .before .before .args .names .now) (c .before .before .before .before .before .before .before .record-at .result))) (ap (λ (t : List ℕ). spell (Token.double t)) (c .before .before .before .part-of2 .ensures)) (c .before .before .write-double .ensures))
 
 pub returns-7 : (t : ℕ) → bare-lts.Need-returns-7 (calls t) (bare-at t) bare.Post
 unfolding itemOf exprOf
-returns-7 t c = Printers.of-row (c .before .before .before .before .before .before .before .before .before .before .args .records .now) (c .before .before .before .before .before .before .before .before .before .before .args .names .now) (c .before .before .before .before .before .before .record-at .ensures) (λ (i : Item). i .expr) show-expr 7 (give (Expr.Unary (unaryOp (c .before .before .before .before .before .before .record-at .result .variant))) and expr-part) refl (omega arith) (c .before .before .before .before .match .keys7) (c .before .before .before .before .before .past .ensures) (c .before .before .unary .ensures)
+returns-7 t c = Printers.of-row (c .before .before .before .before .before .before .before .before .before .before .args .records .now) (c .before .before .before .before .before .before .before .before .before .before .args .names .now) (c .before .before .before .before .before .before .record-at .ensures) (λ (i : Item). i .expr) _ show-expr 7 (give (Expr.Unary (unaryOp (c .before .before .before .before .before .before .record-at .result .variant))) and expr-part) refl (omega arith) (c .before .before .before .before .match .keys7) (c .before .before .before .before .before .past .ensures) (c .before .before .unary .ensures)
 
 pub returns-8 : (t : ℕ) → bare-lts.Need-returns-8 (calls t) (bare-at t) bare.Post
 unfolding itemOf exprOf
-returns-8 t c = Printers.of-row (c .before .before .before .before .before .before .before .before .before .before .args .records .now) (c .before .before .before .before .before .before .before .before .before .before .args .names .now) (c .before .before .before .before .before .before .record-at .ensures) (λ (i : Item). i .expr) show-expr 8 (give (Expr.Binary (binaryOp (c .before .before .before .before .before .before .record-at .result .variant))) and expr-part and expr-part) refl (omega arith) (c .before .before .before .before .match .keys8) (c .before .before .before .before .before .past .ensures) (c .before .before .binary .ensures)
+returns-8 t c = Printers.of-row (c .before .before .before .before .before .before .before .before .before .before .args .records .now) (c .before .before .before .before .before .before .before .before .before .before .args .names .now) (c .before .before .before .before .before .before .record-at .ensures) (λ (i : Item). i .expr) _ show-expr 8 (give (Expr.Binary (binaryOp (c .before .before .before .before .before .before .record-at .result .variant))) and expr-part and expr-part) refl (omega arith) (c .before .before .before .before .match .keys8) (c .before .before .before .before .before .past .ensures) (c .before .before .binary .ensures)
 
 pub returns-9 : (t : ℕ) → bare-lts.Need-returns-9 (calls t) (bare-at t) bare.Post
 unfolding itemOf exprOf
-returns-9 t c = Printers.of-row (c .before .before .before .before .before .before .before .before .before .before .args .records .now) (c .before .before .before .before .before .before .before .before .before .before .args .names .now) (c .before .before .before .before .before .before .record-at .ensures) (λ (i : Item). i .expr) show-expr 9 (give Expr.Ternary and expr-part and expr-part and expr-part) refl (omega arith) (c .before .before .before .before .match .keys9) (c .before .before .before .before .before .past .ensures) (c .before .before .ternary .ensures)
+returns-9 t c = Printers.of-row (c .before .before .before .before .before .before .before .before .before .before .args .records .now) (c .before .before .before .before .before .before .before .before .before .before .args .names .now) (c .before .before .before .before .before .before .record-at .ensures) (λ (i : Item). i .expr) _ show-expr 9 (give Expr.Ternary and expr-part and expr-part and expr-part) refl (omega arith) (c .before .before .before .before .match .keys9) (c .before .before .before .before .before .past .ensures) (c .before .before .ternary .ensures)
 
 pub returns-10 : (t : ℕ) → bare-lts.Need-returns-10 (calls t) (bare-at t) bare.Post
 unfolding itemOf exprOf
-returns-10 t c = Printers.of-row (c .before .before .before .before .before .before .before .before .before .before .args .records .now) (c .before .before .before .before .before .before .before .before .before .before .args .names .now) (c .before .before .before .before .before .before .record-at .ensures) (λ (i : Item). i .expr) show-expr 10 (give (Expr.Assignment (assignmentOp (c .before .before .before .before .before .before .record-at .result .variant))) and expr-part and expr-part) refl (omega arith) (c .before .before .before .before .match .keys10) (c .before .before .before .before .before .past .ensures) (c .before .before .assign .ensures)
+returns-10 t c = Printers.of-row (c .before .before .before .before .before .before .before .before .before .before .args .records .now) (c .before .before .before .before .before .before .before .before .before .before .args .names .now) (c .before .before .before .before .before .before .record-at .ensures) (λ (i : Item). i .expr) _ show-expr 10 (give (Expr.Assignment (assignmentOp (c .before .before .before .before .before .before .record-at .result .variant))) and expr-part and expr-part) refl (omega arith) (c .before .before .before .before .match .keys10) (c .before .before .before .before .before .past .ensures) (c .before .before .assign .ensures)
 
 pub returns-11 : (t : ℕ) → bare-lts.Need-returns-11 (calls t) (bare-at t) bare.Post
 unfolding itemOf exprOf
-returns-11 t c = Printers.of-row (c .before .before .before .before .before .before .before .before .before .before .args .records .now) (c .before .before .before .before .before .before .before .before .before .before .args .names .now) (c .before .before .before .before .before .before .record-at .ensures) (λ (i : Item). i .expr) show-expr 11 (give Expr.Bracket and expr-part and expr-part) refl (omega arith) (c .before .before .before .before .match .keys11) (c .before .before .before .before .before .past .ensures) (c .before .before .index .ensures)
+returns-11 t c = Printers.of-row (c .before .before .before .before .before .before .before .before .before .before .args .records .now) (c .before .before .before .before .before .before .before .before .before .before .args .names .now) (c .before .before .before .before .before .before .record-at .ensures) (λ (i : Item). i .expr) _ show-expr 11 (give Expr.Bracket and expr-part and expr-part) refl (omega arith) (c .before .before .before .before .match .keys11) (c .before .before .before .before .before .past .ensures) (c .before .before .index .ensures)
 
 pub returns-12 : (t : ℕ) → bare-lts.Need-returns-12 (calls t) (bare-at t) bare.Post
 unfolding itemOf exprOf
-returns-12 t c = Printers.of-row (c .before .before .before .before .before .before .before .before .before .before .args .records .now) (c .before .before .before .before .before .before .before .before .before .before .args .names .now) (c .before .before .before .before .before .before .record-at .ensures) (λ (i : Item). i .expr) show-expr 12 (give Expr.FunCall and callee-part and several (c .before .before .before .before .before .before .record-at .result .count) expr-part Exprs.no-exprs Exprs.exprs) refl (omega arith) (c .before .before .before .before .match .keys12) (c .before .before .before .before .before .past .ensures) (c .before .before .call .ensures)
+returns-12 t c = Printers.of-row (c .before .before .before .before .before .before .before .before .before .before .args .records .now) (c .before .before .before .before .before .before .before .before .before .before .args .names .now) (c .before .before .before .before .before .before .record-at .ensures) (λ (i : Item). i .expr) _ show-expr 12 (give Expr.FunCall and callee-part and several (c .before .before .before .before .before .before .record-at .result .count) expr-part Exprs.no-exprs Exprs.exprs) refl (omega arith) (c .before .before .before .before .match .keys12) (c .before .before .before .before .before .past .ensures) (c .before .before .call .ensures)
 
 pub returns-13 : (t : ℕ) → bare-lts.Need-returns-13 (calls t) (bare-at t) bare.Post
 unfolding itemOf exprOf
-returns-13 t c = Printers.of-row (c .before .before .before .before .before .before .before .before .before .before .args .records .now) (c .before .before .before .before .before .before .before .before .before .before .args .names .now) (c .before .before .before .before .before .before .record-at .ensures) (λ (i : Item). i .expr) show-expr 13 (give (Expr.Dot (textOf (c .before .before .before .before .before .before .before .before .before .before .args .names .now) (c .before .before .before .before .before .before .record-at .result))) and expr-part) refl (omega arith) (c .before .before .before .before .match .keys13) (c .before .before .before .before .before .past .ensures) (c .before .before .dot .ensures)
+returns-13 t c = Printers.of-row (c .before .before .before .before .before .before .before .before .before .before .args .records .now) (c .before .before .before .before .before .before .before .before .before .before .args .names .now) (c .before .before .before .before .before .before .record-at .ensures) (λ (i : Item). i .expr) _ show-expr 13 (give (Expr.Dot (textOf (c .before .before .before .before .before .before .before .before .before .before .args .names .now) (c .before .before .before .before .before .before .record-at .result))) and expr-part) refl (omega arith) (c .before .before .before .before .match .keys13) (c .before .before .before .before .before .past .ensures) (c .before .before .dot .ensures)
 
 pub returns-14 : (t : ℕ) → bare-lts.Need-returns-14 (calls t) (bare-at t) bare.Post
 unfolding itemOf exprOf
-returns-14 t c = Printers.of-row (c .before .before .before .before .before .before .before .before .before .before .args .records .now) (c .before .before .before .before .before .before .before .before .before .before .args .names .now) (c .before .before .before .before .before .before .record-at .ensures) (λ (i : Item). i .expr) show-expr 14 (give Expr.PostInc and expr-part) refl (omega arith) (c .before .before .before .before .match .keys14) (c .before .before .before .before .before .past .ensures) (c .before .before .post .ensures)
+returns-14 t c = Printers.of-row (c .before .before .before .before .before .before .before .before .before .before .args .records .now) (c .before .before .before .before .before .before .before .before .before .before .args .names .now) (c .before .before .before .before .before .before .record-at .ensures) (λ (i : Item). i .expr) _ show-expr 14 (give Expr.PostInc and expr-part) refl (omega arith) (c .before .before .before .before .match .keys14) (c .before .before .before .before .before .past .ensures) (c .before .before .post .ensures)
 
 pub returns-15 : (t : ℕ) → bare-lts.Need-returns-15 (calls t) (bare-at t) bare.Post
 unfolding itemOf exprOf
-returns-15 t c = Printers.of-row (c .before .before .before .before .before .before .before .before .before .before .args .records .now) (c .before .before .before .before .before .before .before .before .before .before .args .names .now) (c .before .before .before .before .before .before .record-at .ensures) (λ (i : Item). i .expr) show-expr 15 (give Expr.PostDec and expr-part) refl (omega arith) (c .before .before .before .before .match .keys15) (c .before .before .before .before .before .past .ensures) (c .before .before .post2 .ensures)
+returns-15 t c = Printers.of-row (c .before .before .before .before .before .before .before .before .before .before .args .records .now) (c .before .before .before .before .before .before .before .before .before .before .args .names .now) (c .before .before .before .before .before .before .record-at .ensures) (λ (i : Item). i .expr) _ show-expr 15 (give Expr.PostDec and expr-part) refl (omega arith) (c .before .before .before .before .match .keys15) (c .before .before .before .before .before .past .ensures) (c .before .before .post2 .ensures)
 
 pub returns-16 : (t : ℕ) → bare-lts.Need-returns-16 (calls t) (bare-at t) bare.Post
 unfolding itemOf exprOf
-returns-16 t c = Printers.of-row (c .before .before .before .before .before .before .before .before .before .before .args .records .now) (c .before .before .before .before .before .before .before .before .before .before .args .names .now) (c .before .before .before .before .before .before .record-at .ensures) (λ (i : Item). i .expr) show-expr 16 (give Expr.Comma and expr-part and expr-part) refl (omega arith) (c .before .before .before .before .match .keys16) (c .before .before .before .before .before .past .ensures) (c .before .before .comma .ensures)
+returns-16 t c = Printers.of-row (c .before .before .before .before .before .before .before .before .before .before .args .records .now) (c .before .before .before .before .before .before .before .before .before .before .args .names .now) (c .before .before .before .before .before .before .record-at .ensures) (λ (i : Item). i .expr) _ show-expr 16 (give Expr.Comma and expr-part and expr-part) refl (omega arith) (c .before .before .before .before .match .keys16) (c .before .before .before .before .before .past .ensures) (c .before .before .comma .ensures)
 
 pub returns-17 : (t : ℕ) → bare-lts.Need-returns-17 (calls t) (bare-at t) bare.Post
 unfolding show-expr

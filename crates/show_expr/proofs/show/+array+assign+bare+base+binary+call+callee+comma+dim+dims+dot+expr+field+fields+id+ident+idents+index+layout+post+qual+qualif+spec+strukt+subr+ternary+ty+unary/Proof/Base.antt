@@ -41,15 +41,15 @@ strukt-requires t c κs = (omega (arith, c .before .before .before .before .befo
 
 pub returns : (t : ℕ) → base-lts.Need-returns (calls t) (base-at t) base.Post
 unfolding show-type-specifier-non-array itemOf baseOf
-returns t c = Printers.of-row (c .before .before .before .before .before .before .before .before .before .before .args .records .now) (c .before .before .before .before .before .before .before .before .before .before .args .names .now) (c .before .before .before .before .before .before .record-at .ensures) (λ (i : Item). i .base) show-type-specifier-non-array 21 (give (TypeSpecifierNonArray.Keyword (c .before .before .before .before .before .before .record-at .result .variant))) refl (omega arith) (c .before .before .before .before .match .keys1) (c .before .before .before .before .before .past .ensures) (wrote (c .before .before .show-keyword .ensures (c .before .before .before .before .before .before .before .before .before .before .args .s)))
+returns t c = Printers.of-row (c .before .before .before .before .before .before .before .before .before .before .args .records .now) (c .before .before .before .before .before .before .before .before .before .before .args .names .now) (c .before .before .before .before .before .before .record-at .ensures) (λ (i : Item). i .base) _ show-type-specifier-non-array 21 (give (TypeSpecifierNonArray.Keyword (c .before .before .before .before .before .before .record-at .result .variant))) refl (omega arith) (c .before .before .before .before .match .keys1) (c .before .before .before .before .before .past .ensures) (wrote (c .before .before .show-keyword .ensures (c .before .before .before .before .before .before .before .before .before .before .args .s)))
 
 pub returns-2 : (t : ℕ) → base-lts.Need-returns-2 (calls t) (base-at t) base.Post
 unfolding show-type-specifier-non-array spell itemOf baseOf
-returns-2 t c = Printers.of-row (c .before .before .before .before .before .before .before .before .before .before .args .records .now) (c .before .before .before .before .before .before .before .before .before .before .args .names .now) (c .before .before .before .before .before .before .record-at .ensures) (λ (i : Item). i .base) show-type-specifier-non-array 22 (give (TypeSpecifierNonArray.TypeName (textOf (c .before .before .before .before .before .before .before .before .before .before .args .names .now) (c .before .before .before .before .before .before .record-at .result)))) refl (omega arith) (c .before .before .before .before .match .keys2) (c .before .before .before .before .before .past .ensures) (Printers.put (Token.name (textOf (c .before .before .before .before .before .before .before .before .before .before .args .names .now) (c .before .before .before .before .before .before .record-at .result))) refl (c .before .before .write-name .ensures))
+returns-2 t c = Printers.of-row (c .before .before .before .before .before .before .before .before .before .before .args .records .now) (c .before .before .before .before .before .before .before .before .before .before .args .names .now) (c .before .before .before .before .before .before .record-at .ensures) (λ (i : Item). i .base) _ show-type-specifier-non-array 22 (give (TypeSpecifierNonArray.TypeName (textOf (c .before .before .before .before .before .before .before .before .before .before .args .names .now) (c .before .before .before .before .before .before .record-at .result)))) refl (omega arith) (c .before .before .before .before .match .keys2) (c .before .before .before .before .before .past .ensures) (Printers.put (Token.name (textOf (c .before .before .before .before .before .before .before .before .before .before .args .names .now) (c .before .before .before .before .before .before .record-at .result))) refl (c .before .before .write-name .ensures))
 
 pub returns-3 : (t : ℕ) → base-lts.Need-returns-3 (calls t) (base-at t) base.Post
 unfolding itemOf baseOf
-returns-3 t c = Printers.of-row (c .before .before .before .before .before .before .before .before .before .before .args .records .now) (c .before .before .before .before .before .before .before .before .before .before .args .names .now) (c .before .before .before .before .before .before .record-at .ensures) (λ (i : Item). i .base) show-type-specifier-non-array 23 (Printers.struct-parts (c .before .before .before .before .before .before .before .before .before .before .args .names .now) (c .before .before .before .before .before .before .record-at .result)) refl (omega arith) (c .before .before .before .before .match .keys3) (c .before .before .before .before .before .past .ensures) (c .before .before .strukt .ensures)
+returns-3 t c = Printers.of-row (c .before .before .before .before .before .before .before .before .before .before .args .records .now) (c .before .before .before .before .before .before .before .before .before .before .args .names .now) (c .before .before .before .before .before .before .record-at .ensures) (λ (i : Item). i .base) _ show-type-specifier-non-array 23 (Printers.struct-parts (c .before .before .before .before .before .before .before .before .before .before .args .names .now) (c .before .before .before .before .before .before .record-at .result)) refl (omega arith) (c .before .before .before .before .match .keys3) (c .before .before .before .before .before .past .ensures) (c .before .before .strukt .ensures)
 
 pub returns-4 : (t : ℕ) → base-lts.Need-returns-4 (calls t) (base-at t) base.Post
 unfolding show-type-specifier-non-array

@@ -58,7 +58,7 @@ loop-again t c = turn Lists.specs (c .before .before .before .before .before .be
 
 pub returns-2 : (t : ℕ) → qual-lts.Need-returns-2 (calls t) (qual-at t) qual.Post Inv-loop μ-loop
 unfolding itemOf qualifierOf
-returns-2 t c = Printers.of-row (c .before .before .before .before .before .before .before .before .before .args .records .now) (c .before .before .before .before .before .before .before .before .before .args .names .now) (c .before .before .before .before .before .record-at .ensures) (λ (i : Item). i .qualifier) (λ q. show-type-qualifier q true) 28 (several (c .before .before .before .before .before .record-at .result .count) spec-part TypeQualifier.no-specs TypeQualifier.specs) refl (omega arith) (c .before .before .before .if1 .left) (c .before .before .past .ensures) (done Lists.specs (c .before .before .before .before .before .before .before .before .before .args .s) (c .before .before .before .before .before .before .before .before .before .args .records .now) (c .before .before .before .before .before .before .before .before .before .args .names .now) (c .before .loop .inv) (c .loop-test .left))
+returns-2 t c = Printers.of-row (c .before .before .before .before .before .before .before .before .before .args .records .now) (c .before .before .before .before .before .before .before .before .before .args .names .now) (c .before .before .before .before .before .record-at .ensures) (λ (i : Item). i .qualifier) _ (λ q. show-type-qualifier q true) 28 (several (c .before .before .before .before .before .record-at .result .count) spec-part TypeQualifier.no-specs TypeQualifier.specs) refl (omega arith) (c .before .before .before .if1 .left) (c .before .before .past .ensures) (done Lists.specs (c .before .before .before .before .before .before .before .before .before .args .s) (c .before .before .before .before .before .before .before .before .before .args .records .now) (c .before .before .before .before .before .before .before .before .before .args .names .now) (c .before .loop .inv) (c .loop-test .left))
 
 pub same-length : (t : ℕ) → qual-lts.Need-same-length (calls t) (qual-at t) qual.Post Inv-loop μ-loop
 same-length t c = shown-length (returns-2 t c)
