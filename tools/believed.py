@@ -15,9 +15,8 @@ CALLS = {
     "crates/print/src/main.rt": ["answer"],
     "crates/settings/src/lib.rt": ["tight", "open"],
 }
-# Promise 3, about the words of GLSL; it holds for the preprocessor's words too, and for those of any language between (crates/reading/proofs/Demand3.antt).
-PROMISE_3 = [("reading", "Demand3", "Demand3"), ("lexis", "Glsl", "glsl-word")]
-OTHER_LANGUAGES = [("lexis", "Preprocessing", "Between")]
+# Promise 3, about the words of GLSL, those of the preprocessor, and those of any language between (crates/reading/proofs/Demand3.antt).
+PROMISE_3 = [("reading", "Demand3", "Demand3"), ("lexis", "Glsl", "glsl-word"), ("lexis", "Preprocessing", "Between")]
 
 IMPORT = re.compile(r"^\s*(?:ghost |unfoldable |pub )*use Rattle·(\w+)(?:·specs)?\.specs\.([\w.-]+?)(?:\.\{(.*)\})?(?: as (\S+?))?;?$")
 WORDS = re.compile(r"[^\s(){}\[\],;]+")
@@ -144,8 +143,8 @@ class Contracts:
         self.imports, self.aliases = imports, aliases
 
 
-def believed(roots):
-    """All files that are looked at, and the definitions that the calls and the roots reach."""
+def believed():
+    """All files that are looked at, and the definitions that the calls and promise 3 reach."""
     modules = {}
 
     def load(crate, name):
@@ -153,7 +152,7 @@ def believed(roots):
             modules[crate, name] = Module(crate, name)
         return modules[crate, name]
 
-    waiting, reached = list(roots), set()
+    waiting, reached = list(PROMISE_3), set()
     for path, wanted in CALLS.items():
         texts, imports, aliases = contracts(path, wanted)
         for text in texts:
@@ -177,7 +176,7 @@ def lines_of(modules, reached):
 def main():
     if sys.argv[1:] not in ([], ["--unread"]):
         sys.exit(__doc__)
-    modules, reached = believed(PROMISE_3)
+    modules, reached = believed()
     for (crate, name), module in sorted(modules.items()):
         here = [definition for definition in module.lines if (crate, name, definition) in reached]
         if not here:
@@ -187,10 +186,7 @@ def main():
             for definition in module.lines:
                 if definition not in here:
                     print(f"          not reached: {definition}")
-    total = lines_of(modules, reached)
-    print(f"{total:5}  in all")
-    more = lines_of(*believed(PROMISE_3 + OTHER_LANGUAGES)) - total
-    print(f"{more:5}  more for promise 3 in the preprocessor's words")
+    print(f"{lines_of(modules, reached):5}  in all")
 
 
 if __name__ == "__main__":
