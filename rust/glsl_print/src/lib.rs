@@ -17,9 +17,9 @@
 //! returns, with the text or with the first [`Refused`]; a refusal alters no byte of the room, and the bytes behind a text are
 //! untouched; nothing is kept, and there is no heap and no state, so any number of threads may call.
 //!
-//! A call takes up to 253,000 bytes of stack (a tree may be 200 levels deep): leave it 320 KiB. Rust's threads have 2 MiB unless
-//! they were asked to have less. The library's code for x86-64 touches its stack page by page as Rust's own does, so a call with
-//! too little of it ends the program at the guard page.
+//! A call takes up to 189,000 bytes of stack on x86-64 (a tree may be 200 levels deep): leave it 320 KiB. Rust's threads have
+//! 2 MiB unless they were asked to have less. The library's code for x86-64 touches its stack page by page as Rust's own does, so
+//! a call with too little of it ends the program at the guard page.
 
 #![deny(unsafe_code)]
 #![deny(unsafe_op_in_unsafe_fn)]
