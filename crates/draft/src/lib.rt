@@ -12,15 +12,15 @@ use pen::Pen;
 use settings::Settings;
 use word_table::rows::Words;
 
-// A draft has 8 bytes for each record, 4,096 at most: longer texts are rare. It is zeroed at each call, so a tree of up to 512 records (6,144 bytes) has a
-// short one.
+// A draft has 8 bytes for each of the most records that there may be, 4,096: longer texts are rare. It is zeroed at each call, so a tree of up to 512 records
+// (6,144 bytes) has a shorter one, likewise of 8 bytes for each.
 const FEW: usize = 6144;
 
 const SHORT: usize = 4096;
 
 const LONG: usize = 32768;
 
-// What is put. The functions take it, here and where it is printed, so that each is written and proved once.
+// What is put. The functions take it, here and in crate glsl, so that each is written and proved once.
 pub enum Root {
     Unit,
     Expr,

@@ -47,7 +47,7 @@ pub fn of_binary_op(v: u8) -> u8
     }
 }
 
-// 000 HasPrecedence for Expr. (Apart from the operators, so that the rest compiles to a look into a constant.)
+// 000 HasPrecedence for Expr. (Apart from the operators, so that the rest can compile to a look into a constant: docs/SPEED.md.)
 pub fn of_expr(kind: u8, v: u8) -> u8
     ensures { λ r. ⌜ r ≡ precedenceOf kind v ⌝ }
 {

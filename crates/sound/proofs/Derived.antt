@@ -40,7 +40,7 @@ int-shown : (n : ℕ) → NotNegative n → Shows primary-expression (show-int n
 unfolding tokensOf magnitude
 int-shown n h = rw h record { derivation = primary·int n }
 
--- an expression's text is derived at the strength that HasPrecedence gives it
+-- an expression's text is derived at the strength that is its precedence
 abbrev Shown : Expr → Type 0
 Shown e = Shows (level (precedence e)) (show-expr e) (expr e)
 

@@ -1,7 +1,7 @@
+-- `copy_many` meets its contract: what is left to store from here on is all of it from the start. Assumes nothing.
 use Rattle.room.proofs.Loops.{stored, stored-all, next-of}
 use lib.ListN.{length, drop, length-set, drop-of-length-le}
 use native.Mathlib.Nat.{add-zero}
--- `copy_many` meets its contract: what is left to store from here on is all of it from the start. Assumes nothing.
 use lib.Seq.{sets}
 use mathlib.Core.Path.{_≡_, refl}
 use Prim.Native.Nat.{_+_, _-_, _≤_}

@@ -1,7 +1,7 @@
+-- `fill` meets its contract: what is left to store from here on is all of it from the start. Assumes nothing.
 use Rattle.room.proofs.Loops.{stored, stored-all, next-same, none-same}
 use lib.ListN.{length, replicate, length-set}
 use native.Mathlib.Nat.{add-zero, sub-zero}
--- `fill` meets its contract: what is left to store from here on is all of it from the start. Assumes nothing.
 use lib.Seq.{sets}
 use mathlib.Core.Path.{_≡_, refl}
 use Prim.Native.Nat.{_+_, _-_, _≤_}

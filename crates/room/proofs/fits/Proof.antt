@@ -1,5 +1,5 @@
-use Rattle.room.proofs.Fit.{fits-behind, fits-not}
 -- `fits` meets its contract. Assumes nothing.
+use Rattle.room.proofs.Fit.{fits-behind, fits-not}
 use Rattle.room.proofs.fits.Statement.{statement}
 use Rattle.room.proofs.fits.Tie as tie
 

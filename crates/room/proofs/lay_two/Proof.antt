@@ -1,6 +1,6 @@
+-- `lay_two` meets its contract. Assumes nothing.
 use Rattle.room.proofs.Laid.{laid-fits}
 use Rattle.room.proofs.Fit.{front-fits, back-fits, laid-two, laid-neither}
--- `lay_two` meets its contract. Assumes nothing.
 use mathlib.Core.Path.{sym, _∙_}
 use borrow.Author.Needs.{needs}
 use Rattle.room.proofs.lay_two.Statement.{statement}

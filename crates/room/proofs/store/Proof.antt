@@ -1,5 +1,5 @@
-use Rattle.room.proofs.Loops.{laid-one, laid-none}
 -- `store` meets its contract: in the room the byte is laid, behind it nothing is. Assumes nothing.
+use Rattle.room.proofs.Loops.{laid-one, laid-none}
 use borrow.Author.Needs.{needs}
 use Rattle.room.proofs.store.Statement.{statement}
 use Rattle.room.proofs.store.Tie as tie

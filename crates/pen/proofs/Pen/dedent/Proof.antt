@@ -1,7 +1,7 @@
+-- `dedent` meets its contract: one level less, if there is one. Assumes nothing.
 use Rattle.pen.proofs.Lay.{at-level}
 use native.Mathlib.Omega.{arith}
 use Prim.Native.Nat.{_-_}
--- `dedent` meets its contract: one level less, if there is one. Assumes nothing.
 use borrow.Author.Needs.{needs}
 use Rattle.pen.proofs.Pen.dedent.Statement.{statement}
 use Rattle.pen.proofs.Pen.dedent.Tie as tie

@@ -1,8 +1,8 @@
+-- `indent` meets its contract: one level more, or the level stops. Assumes nothing.
 use Rattle.pen.proofs.Lay.{at-level}
 use Rattle.pen.specs.Sheet.{last-level}
 use native.Mathlib.Omega.{arith}
 use Prim.Native.Nat.{_+_, min}
--- `indent` meets its contract: one level more, or the level stops. Assumes nothing.
 use borrow.Author.Needs.{needs}
 use Rattle.pen.proofs.Pen.indent.Statement.{statement}
 use Rattle.pen.proofs.Pen.indent.Tie as tie

@@ -1,5 +1,5 @@
-use lib.ListN.{length, length-append}
 -- `write_two` meets its contract. Assumes nothing.
+use lib.ListN.{length, length-append}
 use Rattle.pen.specs.Sheet.{forward}
 use Prim.Native.Nat.{ℕ}
 use mathlib.Core.Path.{sym, ap, _∙_}

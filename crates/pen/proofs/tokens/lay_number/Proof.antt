@@ -1,9 +1,9 @@
+-- `lay_number` meets its contract. Assumes nothing.
 use Rattle.room.proofs.Fit.{back-fits, laid-two, laid-neither}
 use Rattle.decimal.specs.Decimal.{decimal}
 use lib.Seq.{sets}
 use Prim.Native.Nat.{ℕ, _+_}
 use mathlib.Core.Path.{sym, ap, _∙_}
--- `lay_number` meets its contract. Assumes nothing.
 use borrow.Author.Needs.{needs}
 use Rattle.pen.proofs.tokens.lay_number.Statement.{statement}
 use Rattle.pen.proofs.tokens.lay_number.Tie as tie

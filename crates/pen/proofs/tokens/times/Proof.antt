@@ -1,6 +1,6 @@
+-- `times` meets its contract: a product of 8 and 16 bits fits 64. Assumes nothing.
 use native.Mathlib.Omega.{arith}
 use Prim.Native.Nat.{_≤_}
--- `times` meets its contract: a product of 8 and 16 bits fits 64. Assumes nothing.
 use lib.Dec.{lit<}
 use native.Mathlib.Nat.{lt-of-le-of-lt, mul-le-mul}
 use borrow.Author.Needs.{needs}
