@@ -20,8 +20,8 @@ use settings::Settings;
 use settings::Whitespace;
 use word_table::rows::Words;
 
-// The record to be read next, where the next byte goes, and the state of the line layout. (In this order they take 16 bytes, and else 24: a pen goes into and out of
-// every printer, through memory.)
+// The record to be read next, where the next byte goes, and the state of the line layout. (The order counts: a pen goes into and out of every printer, through
+// memory, and with the place before the record it takes 24 bytes, here 16; docs/SPEED.md.)
 pub struct Pen {
     pub next: usize,
     pub at: u32,
