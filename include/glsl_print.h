@@ -1,15 +1,25 @@
 /* The proved GLSL printer, for callers from C (C99 or later) and C++ (C++11 or later).
  *
  * A tree comes as records of 12 bytes with a buffer of names, the layout as 21 bytes of settings; GLSL comes out in a room that the
- * caller lends. Link target/native/libglsl.a, which `sh tools/staticlib.sh glsl` writes. examples/c/expression.c is a whole program.
+ * caller lends. docs/RECORDS.md has all kinds of records and all settings, byte by byte. Link target/native/libglsl.a, which
+ * `sh tools/staticlib.sh glsl` writes. examples/c/expression.c is a whole program.
  *
- * Promised by each call, whatever the bytes that it gets, and proved of the library's code:
+ * Promised by each call, whatever the bytes that it gets, and proved of the library's code (what is trusted for that: docs/PROMISES.md):
  *   - It returns, with the text or with the first refusal in the order of their numbers (of 4 to 11, the first faulty record's).
  *     The same bytes always have the same answer.
  *   - On a refusal no byte of the room is altered.
  *   - A text stands at the front of the room. The bytes behind it are untouched, so no zero ends it.
  *   - Slices are lent for the call alone: nothing is kept, and only the room is written. There is no state and no heap, so any
  *     number of threads may call at the same time, each with a room of its own.
+ *
+ * What a text is read as (docs/READING.md):
+ *   - With spaces around operators (settings byte 12, as in GLSL_OPEN) the text of a sound expression is read by GLSL 4.60's grammar as
+ *     that expression and as no other. That is proved too. Sound leaves out a few shapes that are misread under any settings, among
+ *     them minus over --a, which is printed as ---a, minus over a negative IntConst, --1, and a field of an IntConst, 1.lf.
+ *   - Without these spaces (GLSL_TIGHT) signs can meet: n - --k is printed as n---k, which is read as n-- - k. glsl_joined tells of that
+ *     beforehand. That texts without these spaces are read as they were meant otherwise is not proved.
+ *   - Of units nothing is promised but their text. No braces are added: an if without an else that is the first statement of an if with
+ *     one takes that else when it is read, under any settings (docs/DIFFERENCES.md, "Dangling else").
  *
  * Owed by the caller:
  *   - Each pointer is valid for the length behind it, and is not null, even if that length is 0.
@@ -39,7 +49,8 @@ int64_t glsl_print_expr(const uint8_t *settings, size_t settings_length,
                         uint8_t *room, size_t room_length);
 
 /* Asks whether an expression is joined: whether under GLSL_TIGHT some binary + or - has a right operand without brackets whose text
- * begins with the same sign, as in `a--b` for a - -b. The answer is 1 or 0, or a refusal with a number of 2 to 12. */
+ * begins with the same sign, as in `a--b` for a - -b, so that the two signs are read as one. It tells exactly that, and today neither
+ * minus over --a (`---a`) or over a negative IntConst (`--1`) nor a field of an IntConst (`1.lf`). The answer is 1 or 0, or a refusal with a number of 2 to 12. */
 int64_t glsl_joined(const uint8_t *records, size_t records_length, const uint8_t *names, size_t names_length);
 
 /* Why there is no answer. Behind each: the place that goes with it. A record's place is its index, from 0. */
@@ -82,10 +93,12 @@ static inline size_t glsl_refusal_place(int64_t answer)
 
 enum { GLSL_SETTINGS_LENGTH = 21 };
 
-/* Nothing that GLSL does not ask for: no space around operators, no line breaks. */
+/* The least space: none around operators, no line breaks. The text can be read as ANOTHER expression than the tree's, as n---k for
+ * n - --k: ask glsl_joined first, and where it answers 1 print with spaces around operators (settings byte 12). See above, "What a
+ * text is read as". */
 static const uint8_t GLSL_TIGHT[GLSL_SETTINGS_LENGTH] = {0, 0, 0, 0, 0, 0, 0, 0, 0, 0, 0, 0, 0, 0, 0, 0, 0, 0, 0, 0, 0};
 
-/* For people: spaces around operators, a line for each statement, indents of four spaces. */
+/* For people: spaces around operators, a line for each statement, indents of four spaces. Sound expressions are read as they were meant. */
 static const uint8_t GLSL_OPEN[GLSL_SETTINGS_LENGTH] = {2, 4, 1, 1, 1, 1, 1, 1, 2, 2, 2, 2, 1, 2, 2, 0, 1, 1, 1, 1, 1};
 
 #ifdef __cplusplus

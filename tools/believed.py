@@ -13,7 +13,7 @@ CALLS = {
     "crates/glsl/src/lib.rt": None,
     "crates/records/src/lib.rt": ["name"],
     "crates/print/src/main.rt": ["answer"],
-    "crates/settings/src/lib.rt": ["tight", "open"],
+    "crates/settings/src/lib.rt": ["read", "tight", "open", "to_bytes"],
 }
 # Promise 3, about the words of GLSL, those of the preprocessor, and those of any language between (crates/reading/proofs/Demand3.antt).
 PROMISE_3 = [("reading", "Demand3", "Demand3"), ("lexis", "Glsl", "glsl-word"), ("lexis", "Preprocessing", "Between")]

@@ -1,6 +1,7 @@
 #!/bin/sh
 # Prints each examples/NAME.txt by the program `print` under OPEN and TIGHT and compares with NAME.open.glsl and NAME.tight.glsl; with --write it writes these.
-# The sample that the program has in its own folder (crates/print/data) must be what examples/shader.txt makes.
+# The sample that the program has in its own folder (crates/print/data) must be what examples/shader.txt makes. ./shader is tried with a text that is printed and with one
+# that is refused.
 set -eu
 root=$(cd "$(dirname "$0")/.." && pwd -P)
 folder=$(mktemp -d)
@@ -43,4 +44,14 @@ for example in "$root"/examples/*.txt; do
     settle "${example%.txt}.tight.glsl"
     count=$((count + 1))
 done
-echo "examples: $count trees, each printed in OPEN and TIGHT"
+
+# ./shader prints a text's tree, or says why it does not.
+printf 'Unit\n  Declaration invariant "if"  # no name\n' >"$folder/bad.txt"
+status=0
+"$root/shader" "$folder/bad.txt" >"$folder/text" 2>"$folder/reason" || status=$?
+if [ "$status $(cat "$folder/text")" != "1 refused 11 at 1" ] || ! grep -q '^line 2: Declaration invariant "if"$' "$folder/reason"; then
+    echo "examples: ./shader ends with $status: $(cat "$folder/text" "$folder/reason")"
+    exit 1
+fi
+"$root/shader" "$root/examples/tiling.txt" | cmp - "$root/examples/tiling.open.glsl"
+echo "examples: $count trees, each printed in OPEN and TIGHT; ./shader, tried with a good and a bad one"

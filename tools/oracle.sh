@@ -14,3 +14,5 @@ oracle/target/release/oracle check "$recorded"
 # The samples that crates/replay replays are what the oracle writes.
 oracle/target/release/oracle sample Expr 1 | cmp - crates/replay/data/expressions.rec
 oracle/target/release/oracle sample Unit 1 | cmp - crates/replay/data/units.rec
+oracle/target/release/oracle sample Name 1 | cmp - crates/replay/data/names.rec
+oracle/target/release/oracle sample State | cmp - crates/replay/data/states.rec

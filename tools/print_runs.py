@@ -1,7 +1,8 @@
 #!/usr/bin/env python3
 """print_runs.py [PROGRAM]: runs the program `print` (crates/print) in a folder of its own for each line of the tables below, and compares all that it writes.
 
-Without PROGRAM it is proved and built first. The texts and refusals are document 01's ("Calls", "Texts to match"); none is taken from the program."""
+Without PROGRAM it is proved and built first, and ./shader is run too, with its exit status. The texts and refusals are document 01's ("Calls", "Texts to match");
+none is taken from the program."""
 import os
 import subprocess
 import sys
@@ -118,16 +119,46 @@ RUNS = [
     ("a text far above the room", invariant(*[MOST_LETTERS] * 4000), f"refused 13 at {4000 * (LINE + MOST_LETTERS)}\n"),
 ]
 
+# What ./shader is given (an option, or a folder with these files), its exit status, and what it writes to stdout. A text may begin with the name `refused`.
+USAGE = "usage: ./shader [FILE or FOLDER]\n"
+REFUSED_AT = '80 0 1 \n 47 1 \n 42 \n 43 1 0 "at" \n 31 \n 20 \n 22 0 0 "refused"'
+SHADER_RUNS = [
+    ("a folder", tree(RETURN_MINUS_A), 0, "void f() {\n    return -a;\n}\n"),
+    ("a folder that is refused", tree('80 0 1 \n 1 0 0 "x"'), 1, "refused 5 at 1\n"),
+    ("an empty folder", {}, 1, ""),
+    ("a text that begins as a refusal does", tree(REFUSED_AT), 0, "refused at;"),
+    ("a text of nothing", tree("80"), 0, ""),
+    ("help", "--help", 0, USAGE),
+    ("help, in short", "-h", 0, USAGE),
+    ("an option that there is not", "--none", 2, ""),
+]
+
+
+def fill(folder, files):
+    """Writes the files of a tree."""
+    for name, data in files.items():
+        if data is not None:
+            with open(os.path.join(folder, name.replace("_", ".")), "wb") as file:
+                file.write(data)
+
 
 def written(program, files):
     """All that the program writes in a folder with these files."""
     with tempfile.TemporaryDirectory() as folder:
-        for name, data in files.items():
-            if data is not None:
-                with open(os.path.join(folder, name.replace("_", ".")), "wb") as file:
-                    file.write(data)
+        fill(folder, files)
         run = subprocess.run([os.path.join(ROOT, "tools/program.sh"), program], cwd=folder, stdin=subprocess.DEVNULL, capture_output=True, check=False)
         return run.stdout if run.returncode == 0 and not run.stderr else f"status {run.returncode}: {run.stderr!r}".encode()
+
+
+def shader(given):
+    """The exit status of ./shader and what it writes to stdout; of help the first line."""
+    with tempfile.TemporaryDirectory() as folder:
+        if not isinstance(given, str):
+            fill(folder, given)
+        argument = given if isinstance(given, str) else folder
+        run = subprocess.run([os.path.join(ROOT, "shader"), argument], stdin=subprocess.DEVNULL, capture_output=True, check=False)
+        text = run.stdout.decode()
+        return run.returncode, text[: len(USAGE)] if isinstance(given, str) else text
 
 
 def shown(data):
@@ -145,7 +176,21 @@ def main():
             failed += 1
             print(f"print_runs: {name}\n    expected {shown(expected)}\n    found    {shown(found)}")
     print(f"print_runs: {len(RUNS) - failed} of {len(RUNS)} runs of the program wrote what they must")
+    if not sys.argv[1:]:
+        failed += shader_runs()
     sys.exit(failed > 0)
+
+
+def shader_runs():
+    """Runs ./shader; answers how many runs failed."""
+    failed = 0
+    for name, given, status, text in SHADER_RUNS:
+        found = shader(given)
+        if found != (status, text):
+            failed += 1
+            print(f"print_runs: ./shader, {name}\n    expected {(status, text)}\n    found    {found}")
+    print(f"print_runs: {len(SHADER_RUNS) - failed} of {len(SHADER_RUNS)} runs of ./shader ended as they must")
+    return failed
 
 
 if __name__ == "__main__":

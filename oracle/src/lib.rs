@@ -1,7 +1,7 @@
 //! The oracle: answers for trees given as records (document 01), with the texts of the Rust module itself (000).
 //!
 //! A question goes through [`read`] (records to the tree of 001, refusals 1 to 12) and then to the Rust printer;
-//! [`joined`] is the reference for the joined question. [`grow`] makes random trees, [`mod@line`] is the format on disk.
+//! [`joined`] is the reference for the joined question, [`mod@name`] for a record's name. [`grow`] makes random trees, [`mod@line`] is the format on disk.
 //! All of it is written from the words of document 01, not from our own definitions, so that it can contradict them.
 
 pub mod answer;
@@ -9,6 +9,7 @@ pub mod cases;
 pub mod grow;
 pub mod joined;
 pub mod line;
+pub mod name;
 pub mod print;
 pub mod random;
 pub mod read;

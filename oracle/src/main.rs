@@ -10,7 +10,8 @@ const USAGE: &str = "\
 usage: oracle answer               reads lines `Unit|Expr SETTINGS RECORDS NAMES`, writes them with TEXT and JOINED
        oracle check FILE           compares the lines of FILE, which have all six fields, with the oracle's answers
        oracle vectors SEED COUNT   writes COUNT random questions with their answers
-       oracle sample Unit|Expr SEED
+       oracle sample Unit|Expr|Name SEED
+       oracle sample State
                                    writes the sample that crates/replay replays (see `oracle::sample` for its format)
 Bytes are in hex, - for none. JOINED is 0 or 1, and 2 for a unit. A field !N@P is refusal N at place P; a field ? says
 that the Rust module must not be asked, since a float text is not what Rust's Display gives.";
@@ -25,7 +26,8 @@ fn main() -> ExitCode {
         ["answer"] => answer_lines(io::stdin().lock()),
         ["check", file] => check_file(file),
         ["vectors", seed, count] => vectors(seed, count),
-        ["sample", root, seed] => write_sample(root, seed),
+        ["sample", "State"] => write_bytes(&sample::states::file()),
+        ["sample", asked, seed] => write_sample(asked, seed),
         _ => Err(USAGE.to_owned()),
     };
     match verdict {
@@ -87,11 +89,18 @@ fn vectors(seed: &str, count: &str) -> Verdict {
     Ok(true)
 }
 
-/// `sample`: the file of a root and a seed.
-fn write_sample(root: &str, seed: &str) -> Verdict {
-    let root = line::read_root(root).map_err(message)?;
-    let file = sample::file(root, number(seed)?);
-    io::stdout().lock().write_all(&file).map_err(message)?;
+/// `sample`: the file of what is asked and a seed.
+fn write_sample(asked: &str, seed: &str) -> Verdict {
+    let seed = number(seed)?;
+    let file = match asked {
+        "Name" => sample::names::file(seed),
+        root => sample::file(line::read_root(root).map_err(message)?, seed),
+    };
+    write_bytes(&file)
+}
+
+fn write_bytes(bytes: &[u8]) -> Verdict {
+    io::stdout().lock().write_all(bytes).map_err(message)?;
     Ok(true)
 }
 

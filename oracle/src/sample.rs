@@ -1,9 +1,9 @@
-//! The stored samples: some hundred trees with one root each, with the oracle's answers, which a Rattle program replays
-//! (crates/replay).
+//! The stored samples: some hundred trees with one root each, some hundred questions for a record's name ([`names`]), and
+//! states that two methods leave ([`states`]), with the oracle's answers, which a Rattle program replays (crates/replay).
 //!
 //! A file is records of twelve bytes and byte strings. Its first record has the number of cases in `a`, and its kind says
-//! which print is asked: 80 that of a unit, 0 that of an expression. A case is three records, then its settings, records,
-//! names and the room behind the call:
+//! what is asked: 80 the print of a unit, 0 that of an expression, 1 a record's name, 2 a state. A case is three records,
+//! then its settings, records, names and the room behind the call, or the name:
 //!
 //! | record | kind | a | b |
 //! |---|---|---|---|
@@ -11,14 +11,17 @@
 //! | 1 | the joined question's refusal, 0 for none | length of the names | length of the room |
 //! | 2 | 0 | the print's length or place | 1 joined, 0 not, or the place |
 //!
-//! The joined question is not asked about units: both of its numbers are 0.
+//! The joined question is not asked about units: both of its numbers are 0. A question for a name has no settings, no
+//! refusals, and in record 2 the low and the high half of the index.
+
+pub mod names;
+pub mod states;
 
 use crate::answer::{answer, Outcome, Question, Root};
 use crate::cases::{cover, damage, limits, tight};
 use crate::grow;
 use crate::random::Random;
 use crate::read;
-use crate::record::Record;
 use crate::refusal::Refusal;
 use crate::settings;
 use crate::tree::{all, declared, function, int, keyword, many, named, plain, rec, var};
@@ -120,9 +123,12 @@ pub fn file(root: Root, seed: u64) -> Vec<u8> {
         Root::Unit => UNITS,
         Root::Expr => 0,
     };
-    let first = Record { kind, a: u32::try_from(cases.len()).expect(SMALL), ..Record::default() };
-    let first = first.to_bytes().to_vec();
-    [first].into_iter().chain(cases.iter().map(Case::to_bytes)).collect::<Vec<_>>().concat()
+    [first(kind, cases.len())].into_iter().chain(cases.iter().map(Case::to_bytes)).collect::<Vec<_>>().concat()
+}
+
+/// The first record of a file.
+fn first(kind: u8, cases: usize) -> Vec<u8> {
+    rec(kind, 0, 0, u32::try_from(cases).expect(SMALL), 0)
 }
 
 /// The cases of a root and a seed: the smallest trees with each kind and variant in three rooms, expressions of all sizes

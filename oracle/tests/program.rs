@@ -81,8 +81,8 @@ fn differences_are_shown_and_counted() {
 #[test]
 fn samples_repeat_by_seed() {
     // The first record is no case: it says what is asked, and has the cases' number.
-    for (root, kind) in [("Expr", 0), ("Unit", 80)] {
-        let [first, again, other] = ["1", "1", "2"].map(|seed| run(&["sample", root, seed], "").stdout);
+    for (asked, kind) in [("Expr", 0), ("Unit", 80), ("Name", 1)] {
+        let [first, again, other] = ["1", "1", "2"].map(|seed| run(&["sample", asked, seed], "").stdout);
         assert!(first == again && first != other);
         assert_eq!(first[..4], [kind, 0, 0, 0]);
     }

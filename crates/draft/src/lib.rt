@@ -1,6 +1,9 @@
 // A unit or an expression put into a room by a draft. It knows no refusals: that the records were accepted is asked of the caller, who also says what
 // a text that is too long for its room means.
 ghost use mathlib.Core.Path.{_≡_};
+ghost use Prim.Native.Nat.{_≤_};
+ghost use lib.ListN.{length};
+ghost use lib.Seq.{sets};
 ghost use Rattle.word_table.specs.Table as Table;
 ghost use Rattle.settings.specs.State.{fresh};
 ghost use Rattle.text.specs.Pen.{text};
@@ -14,7 +17,7 @@ use word_table::rows::Words;
 
 // A draft has 8 bytes for each of the most records that there may be, 4,096: longer texts are rare. It is zeroed at each call, so a tree of up to 512 records
 // (6,144 bytes) has a shorter one, likewise of 8 bytes for each.
-const FEW: usize = 6144;
+const SMALL_TREE: usize = 6144;
 
 const SHORT: usize = 4096;
 
@@ -62,6 +65,14 @@ fn show_root(
     }
 }
 
+// A text at the front of a room that is long enough for it.
+fn copy_text(room: &mut [u8], text: &[u8])
+    requires { ⌜ length (now text) ≤ length (now room) ⌝ }
+    ensures { λ r. ⌜ now (room .exit) ≡ sets (now (room .entry)) 0 (now (text .entry)) ⌝ }
+{
+    room::copy(room, 0, text)
+}
+
 // Writes the text into the draft, which also measures it. A text that fits the room is copied there, or written again if it is longer than the draft:
 // one that does not fit alters no byte, so nothing can be written into the room before. That no cap of the pen is met is what accepted records and settings
 // give.
@@ -87,7 +98,7 @@ fn put_by(
         show_root(root, s, &t, records, names, room, pen);
         return Fit::Written(n);
     }
-    room::copy(room, 0, &draft[..n]);
+    copy_text(room, &draft[..n]);
     Fit::Written(n)
 }
 
@@ -96,7 +107,7 @@ pub fn put(root: Root, s: Settings, records: &[u8], names: &[u8], room: &mut [u8
     requires { ⌜ Free s (rootCommands root s (now records) (now names)) start ⌝ }
     ensures { λ r. ⌜ Puts (text s (rootCommands root s (now (records .entry)) (now (names .entry))) fresh) (now (room .entry)) (now (room .exit)) r ⌝ }
 {
-    if records.len() <= FEW {
+    if records.len() <= SMALL_TREE {
         let mut short = [0u8; SHORT];
         return put_by(root, s, records, names, &mut short, room);
     }

@@ -23,7 +23,7 @@ use Rattle.draft.specs.declared.Fit.the-variants.{Written, TooLong}
 use Rattle.draft.specs.Put.{Puts}
 use Rattle.glsl.specs.declared.Printed.{Printed}
 use Rattle.glsl.specs.declared.Printed.the-variants.{Text, Refused}
-use Rattle.glsl.specs.Printed.{fitted, outcome, roomAfter, Prints, front}
+use Rattle.glsl.specs.Printed.{fitted, outcome, roomAfter, refusalNumber, refusalPlace, Prints, HandsBack, front}
 use Rattle.glsl.specs.Root.{writtenLength, value}
 
 -- the answer of a print, by that of its text being put
@@ -33,12 +33,20 @@ answer (TooLong n) = Refused Why.RoomTooSmall n
 
 -- an answer and a room, by the outcome
 module _ {t room room′ : List ℕ} {o : Printed} where
+  prints : (r : Printed) → o ≡ r → room′ ≡ roomAfter r t room → Prints o t room room′ r
+  prints r e left = record {
+    answered = sym e;
+    numbered = sym (ap refusalNumber e);
+    placed = sym (ap refusalPlace e);
+    left = left ∙ sym (ap (λ (z : Printed). roomAfter z t room) e);
+  }
+
   -- a refusal leaves the room as it was
   pub refused : (x : Refusal) (p : ℕ) → o ≡ Refused x p → room′ ≡ room → Prints o t room room′ (Refused x p)
-  refused x p e same = record { answered = sym e; left = same ∙ sym (ap (λ (z : Printed). roomAfter z t room) e) }
+  refused x p = prints (Refused x p)
 
   printed : (n : ℕ) → o ≡ Text n → room′ ≡ t ++ drop n room → Prints o t room room′ (Text n)
-  printed n e stands = record { answered = sym e; left = stands ∙ sym (ap (λ (z : Printed). roomAfter z t room) e) }
+  printed n = prints (Text n)
 
 -- a text that was put, where it fits
 put-fitted : (t room : List ℕ) {room′ : List ℕ} (a : Fit) → Puts t room room′ a → Prints (fitted t room) t room room′ (answer a)
@@ -105,6 +113,10 @@ front-is (Refused x p) t room e = (refl, refl)
 module _ (o : Printed) (t room : List ℕ) {room′ : List ℕ} {r : Printed} {n : ℕ} (long : Long o t) (a : Prints o t room room′ r) (e : n ≡ writtenLength r) where
   pub part-is : take n room′ ≡ front o t
   part-is = ap (λ (k : ℕ). take k room′) (e ∙ ap writtenLength (a .answered)) ∙ ap (take (writtenLength o)) (a .left) ∙ front-is o t room long .0
+
+  -- with the number and the place of the answer
+  pub hands-back : {number place : ℕ} → number ≡ refusalNumber r → place ≡ refusalPlace r → HandsBack o t (take n room′) number place
+  hands-back f g = record { handed = part-is; numbered = f ∙ a .numbered; placed = g ∙ a .placed }
 
   pub part-long : n ≡ length (take n room′)
   part-long = e ∙ ap writtenLength (a .answered) ∙ front-is o t room long .1 ∙ sym (ap length part-is)

@@ -1,4 +1,4 @@
--- The outcome of the joined question by what was found on the way, and how large its place is. Assumes nothing.
+-- The outcome of the joined question by what was found on the way: its number and its place are the check's, and small. Assumes nothing.
 use mathlib.Core.Path.{_≡_, refl, sym, ap, _∙_}
 use mathlib.Core.Bool.{Bool, true, false, cond}
 use mathlib.Core.List.{List}
@@ -10,7 +10,7 @@ use Rattle.shapes.specs.Class.{Class}
 use Rattle.accept.specs.declared.Refusal.{Refusal}
 use Rattle.accept.specs.declared.Checked.{Checked}
 use Rattle.accept.specs.declared.Checked.the-variants as Check
-use Rattle.accept.specs.Refusal.{checkedPlace}
+use Rattle.accept.specs.Refusal.{checkedNumber, checkedPlace}
 use Rattle.accept.specs.Check.{most-records, check}
 use Rattle.accepted.proofs.Places.{refused-there, in-range}
 use Rattle.checks.proofs.Small.{place-small}
@@ -19,13 +19,19 @@ use Rattle.joined.specs.Stack.{anyJoined}
 use Rattle.joined.proofs.Answer.{answer}
 use Rattle.glsl.specs.declared.Whether.{Whether}
 use Rattle.glsl.specs.declared.Whether.the-variants.{No, Yes, Refused}
-use Rattle.glsl.specs.Joined.{whetherJoined, joinedOutcome, joinedNumber, joinedPlace}
+use Rattle.glsl.specs.Joined.{whetherJoined, joinedOutcome, joinedNumber, joinedPlace, refusedAt, Answers}
 
 judged-place : (o : Checked) (b : Bool) → checkedPlace o ≤ most-records → joinedPlace (whetherJoined o b) < 2 ^ 32
 unfolding whetherJoined
 judged-place (Check.Refused x p) b h = omega arith
 judged-place (Check.Next m) true h = omega arith
 judged-place (Check.Next m) false h = omega arith
+
+judged-told : (o : Checked) (b : Bool) → (joinedNumber (whetherJoined o b) ≡ checkedNumber o) × (joinedPlace (whetherJoined o b) ≡ refusedAt o)
+unfolding whetherJoined
+judged-told (Check.Refused x p) b = (refl, refl)
+judged-told (Check.Next m) true = (refl, refl)
+judged-told (Check.Next m) false = (refl, refl)
 
 judged-refused : (o : Checked) (b : Bool) (x : Refusal) (p : ℕ) → whetherJoined o b ≡ Refused x p → o ≡ Check.Refused x p
 unfolding whetherJoined
@@ -44,6 +50,12 @@ module _ (records names : List ℕ) where
   question-answered byte m e b f g =
       ap (λ (o : Checked). whetherJoined o (joinedAnswer records names)) e
       ∙ ap (λ (x : Bool). cond x Yes No) (sym (answer records names byte m e) ∙ sym f ∙ g)
+
+  -- the answer that the question has keeps its promise
+  pub answers : (r : Whether) → r ≡ joinedOutcome records names → Answers records names r
+  answers r e =
+      let told = judged-told (check records names Class.expr) (joinedAnswer records names) in
+      record { answered = e; numbered = ap joinedNumber e ∙ told .0; placed = ap joinedPlace e ∙ told .1 }
 
   pub question-small : joinedPlace (joinedOutcome records names) < 2 ^ 32
   question-small = judged-place (check records names Class.expr) (joinedAnswer records names) (place-small records names Class.expr)

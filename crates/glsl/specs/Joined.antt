@@ -1,5 +1,6 @@
 -- The one outcome of the joined question (01, "Calls"): whether the expression is joined, or the check's refusal; it takes no settings and no room, and
 -- never gives refusal 1 or 13. Assumes nothing.
+use mathlib.Core.Path.{_≡_}
 use mathlib.Core.Bool.{Bool, cond}
 use mathlib.Core.List.{List}
 use Prim.Native.Nat.{ℕ}
@@ -7,7 +8,7 @@ use lib.IntN.{ℤ, pos}
 use Rattle.shapes.specs.Class.{Class}
 use Rattle.accept.specs.declared.Checked.{Checked}
 use Rattle.accept.specs.declared.Checked.the-variants as Check
-use Rattle.accept.specs.Refusal.{number}
+use Rattle.accept.specs.Refusal.{number, checkedNumber}
 use Rattle.accept.specs.Check.{check}
 use Rattle.checks.specs.Answer.{refusalAnswer}
 use Rattle.text.specs.Joined.{joinedAnswer}
@@ -31,6 +32,17 @@ abbrev pub joinedPlace : Whether → ℕ
 joinedPlace Answer.No = 0
 joinedPlace Answer.Yes = 0
 joinedPlace (Answer.Refused x p) = p
+
+-- where the check refuses; 0 where it does not
+abbrev pub refusedAt : Checked → ℕ
+refusedAt (Check.Refused x p) = p
+refusedAt (Check.Next m) = 0
+
+-- what the question promises: its answer, and by 01's numbers the check's refusal at its place, or none
+pub record Answers (records names : List ℕ) (r : Whether) : Type 0 where
+  pub answered : r ≡ joinedOutcome records names
+  pub numbered : joinedNumber r ≡ checkedNumber (check records names Class.expr)
+  pub placed : joinedPlace r ≡ refusedAt (check records names Class.expr)
 
 -- the 64 bits of the C function: 1 or 0
 unfoldable pub joinedBits : Whether → ℤ

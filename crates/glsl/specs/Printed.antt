@@ -36,11 +36,6 @@ abbrev pub roomAfter : Printed → (text room : List ℕ) → List ℕ
 roomAfter (Answer.Text n) text room = text ++ drop n room
 roomAfter (Answer.Refused x p) text room = room
 
--- what a print promises: its answer, and every byte of the room
-pub record Prints (o : Printed) (text room room′ : List ℕ) (r : Printed) : Type 0 where
-  pub answered : r ≡ o
-  pub left : room′ ≡ roomAfter o text room
-
 -- the written front, empty where nothing was written
 abbrev pub front : Printed → (text : List ℕ) → List ℕ
 front (Answer.Text n) text = text
@@ -59,6 +54,24 @@ refusalPlace (Answer.Refused x p) = p
 unfoldable pub printedBits : Printed → ℤ
 printedBits (Answer.Text n) = pos n
 printedBits (Answer.Refused x p) = refusalAnswer x p
+
+-- what print_unit_into and print_expr_into promise: the answer, 01's number and place of it, and every byte of the room
+pub record Prints (o : Printed) (text room room′ : List ℕ) (r : Printed) : Type 0 where
+  pub answered : r ≡ o
+  pub numbered : refusalNumber r ≡ refusalNumber o
+  pub placed : refusalPlace r ≡ refusalPlace o
+  pub left : room′ ≡ roomAfter o text room
+
+-- print_unit and print_expr: the part that is handed back, and 01's number and place
+pub record HandsBack (o : Printed) (text part : List ℕ) (no place : ℕ) : Type 0 where
+  pub handed : part ≡ front o text
+  pub numbered : no ≡ refusalNumber o
+  pub placed : place ≡ refusalPlace o
+
+-- glsl_print_unit and glsl_print_expr: the 64 bits, and every byte of the room
+pub record PrintsBits (o : Printed) (text room room′ : List ℕ) (r : ℤ) : Type 0 where
+  pub answered : r ≡ printedBits o
+  pub left : room′ ≡ roomAfter o text room
 
 -- of a unit (root 80); of an expression (root 1 to 16)
 abbrev pub unitOutcome : (settings records names room : List ℕ) → Printed

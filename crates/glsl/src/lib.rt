@@ -4,8 +4,8 @@ ghost use Prim.Native.Nat.{_<_, _^_};
 ghost use Rattle.accept.specs.Check.{check};
 ghost use Rattle.text.specs.Whole.{unitText, exprText};
 ghost use Rattle.glsl.specs.Root.{rootClass, rootText, writtenLength, value, printOutcome};
-ghost use Rattle.glsl.specs.Printed.{roomAfter, Prints, front, refusalNumber, refusalPlace, printedBits, unitOutcome, exprOutcome};
-ghost use Rattle.glsl.specs.Joined.{joinedOutcome, joinedPlace, joinedBits};
+ghost use Rattle.glsl.specs.Printed.{Prints, HandsBack, PrintsBits, refusalNumber, refusalPlace, printedBits, unitOutcome, exprOutcome};
+ghost use Rattle.glsl.specs.Joined.{Answers, joinedOutcome, joinedPlace, joinedBits};
 use accept::Checked;
 use accept::Refusal;
 use draft::Fit;
@@ -99,7 +99,7 @@ fn print<'a, 'b>(
     no: &'b mut u64,
     place: &'b mut u64,
 ) -> &'a mut [u8]
-    ensures { λ r. let o = printOutcome root (now (settings .entry)) (now (records .entry)) (now (names .entry)) (now (room .entry)) in ⌜ (now r ≡ front o (rootText root (now (settings .entry)) (now (records .entry)) (now (names .entry)))) × (now (no .exit) ≡ refusalNumber o) × (now (place .exit) ≡ refusalPlace o) ⌝ }
+    ensures { λ r. ⌜ HandsBack (printOutcome root (now (settings .entry)) (now (records .entry)) (now (names .entry)) (now (room .entry))) (rootText root (now (settings .entry)) (now (records .entry)) (now (names .entry))) (now r) (now (no .exit)) (now (place .exit)) ⌝ }
 {
     let o = print_into(root, settings, records, names, &mut *room);
     *no = number_of(o);
@@ -118,7 +118,7 @@ pub fn print_unit<'a, 'b>(
     no: &'b mut u64,
     place: &'b mut u64,
 ) -> &'a mut [u8]
-    ensures { λ r. let o = unitOutcome (now (settings .entry)) (now (records .entry)) (now (names .entry)) (now (room .entry)) in ⌜ (now r ≡ front o (unitText (now (settings .entry)) (now (records .entry)) (now (names .entry)))) × (now (no .exit) ≡ refusalNumber o) × (now (place .exit) ≡ refusalPlace o) ⌝ }
+    ensures { λ r. ⌜ HandsBack (unitOutcome (now (settings .entry)) (now (records .entry)) (now (names .entry)) (now (room .entry))) (unitText (now (settings .entry)) (now (records .entry)) (now (names .entry))) (now r) (now (no .exit)) (now (place .exit)) ⌝ }
 {
     print(Root::Unit, settings, records, names, room, no, place)
 }
@@ -132,7 +132,7 @@ pub fn print_expr<'a, 'b>(
     no: &'b mut u64,
     place: &'b mut u64,
 ) -> &'a mut [u8]
-    ensures { λ r. let o = exprOutcome (now (settings .entry)) (now (records .entry)) (now (names .entry)) (now (room .entry)) in ⌜ (now r ≡ front o (exprText (now (settings .entry)) (now (records .entry)) (now (names .entry)))) × (now (no .exit) ≡ refusalNumber o) × (now (place .exit) ≡ refusalPlace o) ⌝ }
+    ensures { λ r. ⌜ HandsBack (exprOutcome (now (settings .entry)) (now (records .entry)) (now (names .entry)) (now (room .entry))) (exprText (now (settings .entry)) (now (records .entry)) (now (names .entry))) (now r) (now (no .exit)) (now (place .exit)) ⌝ }
 {
     print(Root::Expr, settings, records, names, room, no, place)
 }
@@ -150,7 +150,7 @@ fn printed_bits(o: Printed) -> i64
 
 // A print with its answer in 64 bits.
 fn print_bits(root: Root, settings: &[u8], records: &[u8], names: &[u8], room: &mut [u8]) -> i64
-    ensures { λ r. let o = printOutcome root (now (settings .entry)) (now (records .entry)) (now (names .entry)) (now (room .entry)) in ⌜ (r ≡ printedBits o) × (now (room .exit) ≡ roomAfter o (rootText root (now (settings .entry)) (now (records .entry)) (now (names .entry))) (now (room .entry))) ⌝ }
+    ensures { λ r. ⌜ PrintsBits (printOutcome root (now (settings .entry)) (now (records .entry)) (now (names .entry)) (now (room .entry))) (rootText root (now (settings .entry)) (now (records .entry)) (now (names .entry))) (now (room .entry)) (now (room .exit)) r ⌝ }
 {
     printed_bits(print_into(root, settings, records, names, room))
 }
@@ -163,7 +163,7 @@ pub extern "C" fn glsl_print_unit(
     names: &[u8],
     room: &mut [u8],
 ) -> i64
-    ensures { λ r. let o = unitOutcome (now (settings .entry)) (now (records .entry)) (now (names .entry)) (now (room .entry)) in ⌜ (r ≡ printedBits o) × (now (room .exit) ≡ roomAfter o (unitText (now (settings .entry)) (now (records .entry)) (now (names .entry))) (now (room .entry))) ⌝ }
+    ensures { λ r. ⌜ PrintsBits (unitOutcome (now (settings .entry)) (now (records .entry)) (now (names .entry)) (now (room .entry))) (unitText (now (settings .entry)) (now (records .entry)) (now (names .entry))) (now (room .entry)) (now (room .exit)) r ⌝ }
 {
     print_bits(Root::Unit, settings, records, names, room)
 }
@@ -175,7 +175,7 @@ pub extern "C" fn glsl_print_expr(
     names: &[u8],
     room: &mut [u8],
 ) -> i64
-    ensures { λ r. let o = exprOutcome (now (settings .entry)) (now (records .entry)) (now (names .entry)) (now (room .entry)) in ⌜ (r ≡ printedBits o) × (now (room .exit) ≡ roomAfter o (exprText (now (settings .entry)) (now (records .entry)) (now (names .entry))) (now (room .entry))) ⌝ }
+    ensures { λ r. ⌜ PrintsBits (exprOutcome (now (settings .entry)) (now (records .entry)) (now (names .entry)) (now (room .entry))) (exprText (now (settings .entry)) (now (records .entry)) (now (names .entry))) (now (room .entry)) (now (room .exit)) r ⌝ }
 {
     print_bits(Root::Expr, settings, records, names, room)
 }
@@ -189,7 +189,7 @@ pub enum Whether {
 
 // Whether an expression is joined.
 pub fn joined(records: &[u8], names: &[u8]) -> Whether
-    ensures { λ r. ⌜ r ≡ joinedOutcome (now (records .entry)) (now (names .entry)) ⌝ }
+    ensures { λ r. ⌜ Answers (now (records .entry)) (now (names .entry)) r ⌝ }
 {
     match walk::check_expr(records, names) {
         Checked::Refused(x, p) => Whether::Refused(x, p),

@@ -15,3 +15,4 @@ pub mod Faithful
 pub mod Agree
 pub mod Viable
 pub mod Rows
+pub mod Alike

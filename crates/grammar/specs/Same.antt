@@ -1,6 +1,6 @@
 -- Which expressions are the same (demand 3): trees hold the bytes of names and float texts, so that offsets play no part. A callee's name counts the same recorded as a
 -- type name without dimensions or as a Variable (01 lets it be either, and its text is the same); with dimensions it is read as a type (01), also where chapter 9 has a
--- postfix_expression alone, as in `(f)[1]()`: no sound expression has such a text. Assumes nothing.
+-- postfix_expression alone, as in `(f)[1]()`: no sound expression has such a text. Expressions that are the same have one text under all settings (proofs/Alike). Assumes nothing.
 use mathlib.Core.Path.{_≡_}
 use Rattle.text.specs.Tree.{Expr, Exprs, FunIdentifier, TypeSpecifier, TypeSpecifierNonArray, ArraySpecifier, ArraySpecifierDimension}
 use Rattle.text.specs.Tree.Expr.{no-expr, Variable, IntConst, UIntConst, BoolConst, FloatConst, DoubleConst, Unary, Binary, Ternary, Assignment, Bracket, FunCall, Dot, PostInc, PostDec, Comma}

@@ -19,3 +19,20 @@ pub fn consume_newline(state: &mut FormattingState)
 {
     state.new_line_pending = false;
 }
+
+// Both of a state by value, which is lent for the call: what takes no reference to a struct can call these.
+pub fn after_new_line(state: FormattingState, required: bool) -> FormattingState
+    ensures { λ r. ⌜ r ≡ asked required state ⌝ }
+{
+    let mut lent = state;
+    new_line(&mut lent, required);
+    lent
+}
+
+pub fn after_consume_newline(state: FormattingState) -> FormattingState
+    ensures { λ r. ⌜ r ≡ pend false state ⌝ }
+{
+    let mut lent = state;
+    consume_newline(&mut lent);
+    lent
+}

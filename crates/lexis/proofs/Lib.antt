@@ -12,3 +12,4 @@ pub mod Behind
 pub mod Glsl
 pub mod Examples
 pub mod Listed
+pub mod Families

@@ -1,4 +1,5 @@
--- The words that GLSL lists as keywords or reserved words (4.60 §3.6): no name of a sound expression is one of them (01, "Sound expression"). Assumes nothing.
+-- The words that GLSL lists as keywords or reserved words (4.60 §3.6): no name of a sound expression is one of them (01, "Sound expression"). No letter stands here alone: the printer's words and
+-- proofs/Families have each a second time. Assumes nothing.
 use mathlib.Core.Bool.{Bool}
 use mathlib.Core.List.{List, [], _∷_, _++_}
 use Prim.Native.Nat.{ℕ}

@@ -1,22 +1,17 @@
--- The laws of what the program writes: bytes one behind the other are a refusal's line, and a text is what its print left. Assumes nothing.
-use mathlib.Core.Path.{_≡_, refl, sym, ap, subst, _∙_}
+-- The laws of what the program writes: bytes one behind the other are a refusal's line, and a text is the part that its print hands back. Assumes nothing.
+use mathlib.Core.Path.{_≡_, sym, ap, _∙_}
 use mathlib.Core.List.{List, _++_}
 use Prim.Native.Nat.{ℕ, _+_, _≤_}
 use native.Mathlib.Omega.{arith}
-use lib.ListN.{length, take, drop, length-append, length-take}
+use lib.ListN.{length, take, drop, length-append}
 use lib.Seq.{sets, sets-eq, length-take-le, take-at}
 use Rattle.words.specs.Bytes.{bytes}
 use Rattle.decimal.specs.Decimal.{decimal}
-use Rattle.io.specs.Counts.{Counts}
-use Rattle.settings.specs.declared.SettingsRead.{SettingsRead}
-use Rattle.accept.specs.declared.Refusal.{Refusal}
-use Rattle.accept.specs.declared.Checked.{Checked}
 use Rattle.accept.specs.Refusal.{number}
+use Rattle.accepted.proofs.Unique.{number-not-zero}
 use Rattle.glsl.specs.declared.Printed.{Printed}
 use Rattle.glsl.specs.declared.Printed.the-variants as Answer
-use Rattle.glsl.specs.Printed.{outcome, Prints, front}
-use Rattle.glsl.specs.Root.{writtenLength}
-use Rattle.glsl.proofs.Outcome.{outcome-long, part-is, part-long}
+use Rattle.glsl.specs.Printed.{front, refusalNumber, refusalPlace}
 use Rattle.print.specs.Told.{refused, told, Added}
 
 -- what was set behind a place stands there
@@ -45,20 +40,11 @@ pub short : {e₁ e₂ e₃ e₄ e₅ : ℕ} {b₂ b₄ room room₁ room₂ roo
     → Added (bytes " at ") e₂ room₂ room₃ e₃ → Added b₄ e₃ room₃ room₄ e₄ → e₄ ≤ e₃ + 20 → Added (bytes "\n") e₄ room₄ room₅ e₅ → e₅ ≤ 64
 short a₁ a₂ h₂ a₃ a₄ h₄ a₅ = omega (arith, a₁ .ends, h₂, a₃ .ends, h₄, a₅ .ends)
 
--- so many bytes are there as a front has that is as long
-there : (n : ℕ) (xs : List ℕ) → n ≡ length (take n xs) → n ≤ length xs
-there n xs e = omega (arith, e, length-take n xs)
+-- what is handed back, by what a print says of its outcome: its number tells a text from a refusal
+pub text-told : (o : Printed) (t : List ℕ) {n : ℕ} {part : List ℕ} → n ≡ refusalNumber o → n ≡ 0 → part ≡ front o t → part ≡ told o t
+text-told (Answer.Text m) t e zero is = is
+text-told (Answer.Refused x p) t e zero is = absurd (number-not-zero x (sym e ∙ zero))
 
--- what stands at the front of the room behind a print, and behind a refusal's line
-module _ (s : SettingsRead) (k : Checked) (t room : List ℕ) {room′ : List ℕ} {r : Printed} (a : Prints (outcome s k t room) t room room′ r) where
-  pub text-told : (n : ℕ) → r ≡ Answer.Text n → Counts n room′ × (take n room′ ≡ told (outcome s k t room) t)
-  text-told n e =
-      let o = outcome s k t room in
-      let f = sym (ap writtenLength e) in
-      let long = part-long o t room (outcome-long s k t room) a f in
-      ((there n room′ long, long), part-is o t room (outcome-long s k t room) a f ∙ subst (λ (x : Printed). front x t ≡ told x t) (sym e ∙ a .answered) refl)
-
-  pub refusal-told : (x : Refusal) (p n : ℕ) (room″ : List ℕ) (m : ℕ) → r ≡ Answer.Refused x p → n ≤ length room″ → m ≡ number x → take n room″ ≡ refused m p
-      → Counts n room″ × (take n room″ ≡ told (outcome s k t room) t)
-  refusal-told x p n room″ m e fits same line =
-      ((fits, sym (length-take-le n room″ fits)), line ∙ ap (λ (i : ℕ). refused i p) same ∙ ap (λ (y : Printed). told y t) (sym e ∙ a .answered))
+pub refusal-told : (o : Printed) (t : List ℕ) {n place : ℕ} {line : List ℕ} → n ≡ refusalNumber o → place ≡ refusalPlace o → (n ≡ 0 → ⊥) → line ≡ refused n place → line ≡ told o t
+refusal-told (Answer.Text m) t e f some is = absurd (some e)
+refusal-told (Answer.Refused x p) t {place = place} e f some is = is ∙ ap (λ (i : ℕ). refused i place) e ∙ ap (refused (number x)) f

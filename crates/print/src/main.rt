@@ -9,14 +9,15 @@ ghost use Rattle.settings.specs.Settings.{OPEN};
 ghost use Rattle.text.specs.Whole.{unitText};
 ghost use Rattle.glsl.specs.Printed.{unitOutcome};
 ghost use Rattle.print.specs.Told.{refused, told, Added};
-use glsl::Printed;
 use libc::STDOUT_FILENO;
+use settings::Settings;
 
 // The record of OPEN.
 fn open_record() -> [u8; 21]
     ensures { λ r. ⌜ r ≡ OPEN ⌝ }
 {
-    *b"\x02\x04\x01\x01\x01\x01\x01\x01\x02\x02\x02\x02\x01\x02\x02\x00\x01\x01\x01\x01\x01"
+    let open = Settings::open();
+    open.to_bytes()
 }
 
 // Reads a file, at most the buffer, and answers how many bytes it has; where it can't be opened, so many as stand there already.
@@ -63,17 +64,33 @@ fn tell_refusal(room: &mut [u8], number: u64, place: u64) -> usize
     add(room, place_end, b"\n")
 }
 
-// What is to be written stands at the front of the room; answers how long it is.
-fn answer(settings: &[u8], tree: &[u8], names: &[u8], room: &mut [u8]) -> usize
-    requires { ⌜ 64 ≤ length (now room) ⌝ }
-    ensures { λ r. ⌜ Counts r (now (room .exit)) ⌝ }
-    ensures { λ r. ⌜ take r (now (room .exit)) ≡ told (unitOutcome (now (settings .entry)) (now (tree .entry)) (now (names .entry)) (now (room .entry))) (unitText (now (settings .entry)) (now (tree .entry)) (now (names .entry))) ⌝ }
+// The same, as the written front of a lent line.
+fn refusal_line<'a>(line: &'a mut [u8], number: u64, place: u64) -> &'a mut [u8]
+    requires { ⌜ 64 ≤ length (now line) ⌝ }
+    ensures { λ r. ⌜ now r ≡ refused number place ⌝ }
 {
-    let printed = glsl::print_unit_into(settings, tree, names, room);
-    match printed {
-        Printed::Text(n) => n,
-        Printed::Refused(x, p) => tell_refusal(room, checks::number_of(x), p as u64),
+    let n = tell_refusal(&mut *line, number, place);
+    &mut line[..n]
+}
+
+// What is to be written: the text, which is a part of the room, or the refusal's line, a part of `line`.
+fn answer<'a, 'b>(
+    settings: &'b [u8],
+    tree: &'b [u8],
+    names: &'b [u8],
+    room: &'a mut [u8],
+    line: &'a mut [u8],
+) -> &'a mut [u8]
+    requires { ⌜ 64 ≤ length (now line) ⌝ }
+    ensures { λ r. ⌜ now r ≡ told (unitOutcome (now (settings .entry)) (now (tree .entry)) (now (names .entry)) (now (room .entry))) (unitText (now (settings .entry)) (now (tree .entry)) (now (names .entry))) ⌝ }
+{
+    let mut number: u64 = 0;
+    let mut place: u64 = 0;
+    let text = glsl::print_unit(settings, tree, names, room, &mut number, &mut place);
+    if number == 0 {
+        return text;
     }
+    refusal_line(line, number, place)
 }
 
 fn main() {
@@ -81,16 +98,18 @@ fn main() {
     let mut tree = [0u8; 49153];
     let mut names = [0u8; 32769];
     let mut room = [0u8; 65536];
+    let mut line = [0u8; 64];
     let open = open_record();
     room::lay(&mut settings, 0, &open);
     let settings_length = load(b"settings.rec", &mut settings, 21);
     let tree_length = load(b"tree.rec", &mut tree, 0);
     let names_length = load(b"names.txt", &mut names, 0);
-    let n = answer(
+    let said = answer(
         &settings[..settings_length],
         &tree[..tree_length],
         &names[..names_length],
         &mut room,
+        &mut line,
     );
-    io::write_all(STDOUT_FILENO, &room[..n]);
+    io::write_all(STDOUT_FILENO, said);
 }

@@ -1,5 +1,5 @@
--- The other calls that print an expression: where print_expr_into answers with a length, and where glsl_print_expr answers with a number that is not negative, the front
--- of the room is what print_expr hands back. So demand 3 is said of it. Assumes nothing.
+-- The calls that print an expression, each by what its contract promises (glsl, proofs/Contracts): print_expr where it gives no number of a refusal; print_expr_into where it answers with a length, and
+-- glsl_print_expr where it answers with a number that is not negative: there the front of the room is what print_expr hands back. So demand 3 is said of it. Assumes nothing.
 use mathlib.Core.Path.{_≡_, refl, sym, ap, _∙_}
 use mathlib.Core.List.{List}
 use Prim.Native.Nat.{ℕ, zero, suc, _<_, _+_, _*_, _^_}
@@ -16,8 +16,8 @@ use Rattle.checks.specs.Answer.{refusalAnswer}
 use Rattle.text.specs.Whole.{exprText}
 use Rattle.glsl.specs.declared.Printed.{Printed}
 use Rattle.glsl.specs.declared.Printed.the-variants.{Text, Refused}
-use Rattle.glsl.specs.Printed.{exprOutcome, Prints, refusalNumber, refusalPlace, roomAfter, printedBits}
-use Rattle.glsl.proofs.Outcome.{outcome-long, part-is}
+use Rattle.glsl.specs.Printed.{exprOutcome, Prints, HandsBack, PrintsBits, refusalNumber, refusalPlace, printedBits}
+use Rattle.glsl.proofs.Outcome.{outcome-long, hands-back}
 use Rattle.reading.specs.Demand3.{Call}
 
 -- no refusal's answer is a length
@@ -41,21 +41,16 @@ module _ (settings records names room room′ : List ℕ) (lent : (p : ℕ) → 
   abbrev whole : List ℕ
   whole = exprText settings records names
 
+  -- print_expr
+  pub handed : (part : List ℕ) (m place : ℕ) → HandsBack expected whole part m place → m ≡ 0 → Call
+  handed part m place p e = record { settings = settings; records = records; names = names; room = room; written = part; no = m; place = place; lent = lent; promised = p; accepted = e }
+
   -- print_expr_into
   pub into : (n : ℕ) → Prints expected whole room room′ (Text n) → Call
-  into n p = record {
-    settings = settings;
-    records = records;
-    names = names;
-    room = room;
-    written = take n room′;
-    no = 0;
-    place = 0;
-    lent = lent;
-    promised = (part-is expected whole room (outcome-long (readSettings settings) (check records names Class.expr) whole room) p refl, ap refusalNumber (p .answered), ap refusalPlace (p .answered));
-    accepted = refl;
-  }
+  into n p = handed (take n room′) 0 0 (hands-back expected whole room (outcome-long (readSettings settings) (check records names Class.expr) whole room) p refl refl refl) refl
 
   -- glsl_print_expr
-  pub exported : (n : ℕ) (r : ℤ) → (r ≡ printedBits expected) × (room′ ≡ roomAfter expected whole room) → r ≡ pos n → Call
-  exported n r p e = into n (record { answered = sym (length-is expected n (sym (p .0) ∙ e)); left = p .1 })
+  pub exported : (n : ℕ) (r : ℤ) → PrintsBits expected whole room room′ r → r ≡ pos n → Call
+  exported n r p e =
+      let answer : expected ≡ Text n = length-is expected n (sym (p .answered) ∙ e) in
+      into n (record { answered = sym answer; numbered = sym (ap refusalNumber answer); placed = sym (ap refusalPlace answer); left = p .left })

@@ -64,7 +64,7 @@ passed (Settings.Read s) (Check.Refused x p) t room h = absurd (number-not-zero 
 passed (Settings.Read s) (Check.Next m) t room h = record { read = s; next = m; settings-read = refl; accepted = refl }
 
 -- and hands back its text
-whole-front : (o : Printed) (t : List ℕ) → refusalNumber o ≡ 0 → front o t ≡ t
+pub whole-front : (o : Printed) (t : List ℕ) → refusalNumber o ≡ 0 → front o t ≡ t
 whole-front (Answer.Text n) t h = refl
 whole-front (Answer.Refused x p) t h = absurd (number-not-zero x h)
 
@@ -78,9 +78,9 @@ module _ (W : List ℕ → Bool) (between : Between W) where
   call-read c h =
       let o = exprOutcome (c .settings) (c .records) (c .names) (c .room) in
       let t = exprText (c .settings) (c .records) (c .names) in
-      let none : refusalNumber o ≡ 0 = sym (c .promised .1) ∙ c .accepted in
+      let none : refusalNumber o ≡ 0 = sym (c .promised .numbered) ∙ c .accepted in
       let q : Passed (readSettings (c .settings)) (check (c .records) (c .names) Class.expr) = passed (readSettings (c .settings)) (check (c .records) (c .names) Class.expr) t (c .room) none in
-      subst (λ (bs : List ℕ). IsRead W bs (recorded c)) (sym (c .promised .0 ∙ whole-front o t none))
+      subst (λ (bs : List ℕ). IsRead W bs (recorded c)) (sym (c .promised .handed ∙ whole-front o t none))
       (tree-read (settingsOf (c .settings)) (h .spaced) (recorded c) (expr-formed (c .records) (c .names) (c .lent) (q .next) (q .accepted)) (h .sound) fresh)
 
   pub holds : Demand3 W

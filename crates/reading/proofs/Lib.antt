@@ -1,7 +1,10 @@
 pub mod Computing
 pub mod Demand3
+pub mod Contract
 pub mod Calls
+pub mod Exactly
 pub mod Spelled
 pub mod Needed
 pub mod Story
+pub mod Fixed
 pub mod Sample

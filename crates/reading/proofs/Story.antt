@@ -29,23 +29,23 @@ use Rattle.glsl.specs.Printed.{exprOutcome, front, fitted, outcome}
 use Rattle.glsl.specs.Joined.{whetherJoined, joinedOutcome}
 use Rattle.glsl.specs.declared.Whether.the-variants.{No, Yes}
 use Rattle.reading.specs.Read.{IsRead}
-use Rattle.reading.specs.Demand3.{Call}
+use Rattle.reading.specs.Demand3.{Call, SpacedAndSound}
 use Rattle.reading.proofs.Computing.{reading}
 use Rattle.reading.proofs.Demand3.{in-glsl, one-expression}
 use Rattle.reading.proofs.Spelled.{tok}
 use Rattle.reading.proofs.Needed.{as-reader}
 
 -- what is lent: records (kind 8 variant 15 is minus, kind 7 variant 1 a decrement before, kind 15 a decrement afterwards), names, a room of 16 bytes
-abbrev names : List ℕ
+abbrev pub names : List ℕ
 names = bytes "nk"
 
 abbrev minus-decremented : List ℕ
 minus-decremented = plain 8 15 ++ named 1 0 0 ++ plain 7 1 ++ named 1 0 1
 
-abbrev decremented-minus : List ℕ
+abbrev pub decremented-minus : List ℕ
 decremented-minus = plain 8 15 ++ plain 15 0 ++ named 1 0 0 ++ named 1 0 1
 
-abbrev room : List ℕ
+abbrev pub room : List ℕ
 room = replicate 16 0
 
 -- the two expressions
@@ -60,7 +60,7 @@ abbrev handed : (settings records : List ℕ) → List ℕ
 handed settings records = front (exprOutcome settings records names room) (exprText settings records names)
 
 -- records in which every number is below 256 are bytes
-bytes-below : (bs : List ℕ) → all (λ b. ltb b 256) bs ≡ true → (p : ℕ) → getD bs p 0 < 256
+pub bytes-below : (bs : List ℕ) → all (λ b. ltb b 256) bs ≡ true → (p : ℕ) → getD bs p 0 < 256
 unfolding all
 bytes-below [] h p = omega arith
 bytes-below (b ∷ bs) h zero = ltb-true b 256 (both (ltb b 256) (all (λ b. ltb b 256) bs) h .0)
@@ -87,12 +87,12 @@ tight : IsRead glsl-word (bytes "n---k") n-decremented-minus-k
 unfolding computing reading
 tight = as-reader (tok (name (bytes "n")) ∷ tok (symbol dec-op) ∷ tok (symbol dash) ∷ tok (name (bytes "k")) ∷ []) refl n-decremented-minus-k refl
 
-different : Same n-decremented-minus-k n-minus-decremented-k → ⊥
+pub different : Same n-decremented-minus-k n-minus-decremented-k → ⊥
 unfolding reading
 different s = let z : _≡_ {A = ℕ} 0 1 = cc in omega arith
 
--- the call in OPEN
-open-call : Call
+-- the call in OPEN, of an expression that is sound and printed with spaces
+unfoldable pub open-call : Call
 unfolding computing checking reading fitted outcome
 open-call = record {
   settings = OPEN;
@@ -103,13 +103,17 @@ open-call = record {
   no = 0;
   place = 0;
   lent = bytes-below minus-decremented refl;
-  promised = (refl, refl, refl);
+  promised = record { handed = refl; numbered = refl; placed = refl };
   accepted = refl;
 }
 
 -- an operator over a name is not mixed
 over-name : (op : UnaryOp) (n : List ℕ) → Unmixed op (Variable n)
 over-name op n = elim [ ]
+
+pub open-sound : SpacedAndSound open-call
+unfolding computing checking reading fitted outcome open-call
+open-sound = record { spaced = refl; sound = (refl, (over-name UnaryOp.Dec (bytes "k"), refl)) }
 
 pub story : Story
 unfolding computing checking reading fitted outcome whetherJoined open-call
@@ -118,7 +122,7 @@ story = record {
   second = refl;
   open-text = refl;
   open-other = refl;
-  open-read = in-glsl .read-as open-call (record { spaced = refl; sound = (refl, (over-name UnaryOp.Dec (bytes "k"), refl)) });
+  open-read = in-glsl .read-as open-call open-sound;
   tight-text = refl;
   tight-other = refl;
   tight-read = tight;

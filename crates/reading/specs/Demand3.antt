@@ -14,11 +14,15 @@ use Rattle.settings.specs.Settings.{settingsOf}
 use Rattle.text.specs.Tree.{Expr}
 use Rattle.text.specs.Reading.{expr, from}
 use Rattle.text.specs.Whole.{exprText}
-use Rattle.glsl.specs.Printed.{exprOutcome, refusalNumber, refusalPlace, front}
+use Rattle.glsl.specs.Printed.{exprOutcome, HandsBack}
 use Rattle.lexis.specs.Keywords.{listed}
 use Rattle.grammar.specs.Same.{Same}
 use Rattle.sound.specs.Sound.{Sound}
 use Rattle.reading.specs.Read.{IsRead}
+
+-- what print_expr promises of what it is lent, and hands back: its contract is this very proposition (proofs/Contract)
+abbrev pub Promised : (settings records names room written : List ℕ) (number place : ℕ) → Type 0
+Promised settings records names room written number place = HandsBack (exprOutcome settings records names room) (exprText settings records names) written number place
 
 -- a call of print_expr that succeeds: what is lent, and what it hands back
 pub record Call : Type 0 where
@@ -31,8 +35,7 @@ pub record Call : Type 0 where
   pub place : ℕ
   -- records are bytes
   pub lent : (p : ℕ) → getD records p 0 < 256
-  -- the promise, as print_expr's contract has it
-  pub promised : let o = exprOutcome settings records names room in (written ≡ front o (exprText settings records names)) × (no ≡ refusalNumber o) × (place ≡ refusalPlace o)
+  pub promised : Promised settings records names room written no place
   -- no refusal (their numbers begin with 1)
   pub accepted : no ≡ 0
 

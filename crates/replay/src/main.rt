@@ -1,8 +1,8 @@
-// Replays samples of the oracle's answers about expressions and units (oracle/src/sample.rs writes them and has their format): asks the public calls again, and
-// compares answers and every byte of the room. Reading is total: what stands beyond a sample's end reads as nothing, and then the answers differ.
+// Replays samples of the oracle's answers about expressions, units, records' names and lent states (oracle/src/sample.rs writes them and has their format): asks the public
+// functions again, TIGHT and OPEN too, and compares answers, parts that are handed back, and every byte of the room. Reading is total: what stands beyond a sample's end reads as nothing, and then the answers differ.
 ghost use mathlib.Core.Path.{_≡_};
 ghost use mathlib.Core.Bool.{_&&_, cond};
-ghost use Prim.Native.Nat.{_+_, min};
+ghost use Prim.Native.Nat.{_+_, _≤_, min};
 ghost use lib.Dec.{eqb};
 ghost use Rattle.io.specs.Counts.{Counts};
 ghost use Rattle.pen.specs.Sheet.{last-place};
@@ -13,17 +13,32 @@ ghost use Rattle.glsl.specs.Joined.{joinedNumber};
 use glsl::Printed;
 use glsl::Whether;
 use libc::STDOUT_FILENO;
+use records::Record;
+use settings::FormattingState;
+use settings::Settings;
 
 // The bytes of a record, and of the three records that begin a case.
 const RECORD: u32 = 12;
 
 const HEAD: u32 = 36;
 
-// The kind of a sample's first record where its trees are units.
+// What a sample asks, by the kind of its first record: for prints of units, for records' names, for states, and with any other for prints of expressions.
 const UNITS: u8 = 80;
+
+const NAMES: u8 = 1;
+
+const STATES: u8 = 2;
+
+// What is called on a state, by the kind of a case: to consume a newline, to ask for one; any other asks for one that is not required.
+const CONSUME: u8 = 0;
+
+const REQUIRED: u8 = 2;
 
 // What a room holds before a call.
 const BLANK: u8 = 165;
+
+// What the lent numbers hold before a call: no number and no place of a refusal.
+const UNSET: u64 = 18446744073709551615;
 
 // An answer as the sample has it: a refusal's number, 0 for none, and the value beside it.
 struct Answer {
@@ -109,12 +124,86 @@ fn prints_so(
     is(print, number, value) && words::same(room, after)
 }
 
-// The same in the front of a room, as long as what is behind the call.
-fn prints_so_in_front(
+// The print of a unit or of an expression that hands back the written front of the room.
+fn print<'a, 'b>(
     is_unit: bool,
-    settings: &[u8],
-    tree: &[u8],
-    names: &[u8],
+    settings: &'b [u8],
+    tree: &'b [u8],
+    names: &'b [u8],
+    room: &'a mut [u8],
+    number: &'b mut u64,
+    place: &'b mut u64,
+) -> &'a mut [u8] {
+    if is_unit {
+        return glsl::print_unit(settings, tree, names, room, number, place);
+    }
+    glsl::print_expr(settings, tree, names, room, number, place)
+}
+
+// What it says of a refusal, if it hands back this text; else what no print says.
+fn print_part<'b>(
+    is_unit: bool,
+    settings: &'b [u8],
+    tree: &'b [u8],
+    names: &'b [u8],
+    room: &mut [u8],
+    text: &[u8],
+) -> Answer {
+    let mut number: u64 = UNSET;
+    let mut value: u64 = UNSET;
+    let part = print(
+        is_unit,
+        settings,
+        tree,
+        names,
+        room,
+        &mut number,
+        &mut value,
+    );
+    if words::same(part, text) {
+        return Answer { number, value };
+    }
+    Answer {
+        number: UNSET,
+        value: UNSET,
+    }
+}
+
+// The place of a refusal; a text has none, and its length is beside it.
+fn place_of(number: u8, value: u32) -> u32
+    ensures { λ r. ⌜ r ≤ value ⌝ }
+{
+    if number == 0 {
+        return 0;
+    }
+    value
+}
+
+// Whether that print hands back the text and no more, says so, and leaves a blank room as it is said to.
+fn hands_back_so<'b>(
+    is_unit: bool,
+    settings: &'b [u8],
+    tree: &'b [u8],
+    names: &'b [u8],
+    room: &mut [u8],
+    number: u8,
+    value: u32,
+    after: &[u8],
+) -> bool {
+    let n = room.len();
+    room::lay_run(room, 0, BLANK, n);
+    let said_place = place_of(number, value);
+    let text = records::part_of(after, 0, value - said_place);
+    let said = print_part(is_unit, settings, tree, names, room, text);
+    is(said, number, said_place) && words::same(room, after)
+}
+
+// Both in the front of a room, as long as what is behind the call.
+fn prints_so_in_front<'b>(
+    is_unit: bool,
+    settings: &'b [u8],
+    tree: &'b [u8],
+    names: &'b [u8],
     room: &mut [u8],
     number: u8,
     value: u32,
@@ -124,16 +213,9 @@ fn prints_so_in_front(
     if room.len() < n {
         return false;
     }
-    prints_so(
-        is_unit,
-        settings,
-        tree,
-        names,
-        &mut room[..n],
-        number,
-        value,
-        after,
-    )
+    let front = &mut room[..n];
+    prints_so(is_unit, settings, tree, names, front, number, value, after)
+        && hands_back_so(is_unit, settings, tree, names, front, number, value, after)
 }
 
 // Whether the joined question is answered so; a unit is not asked about.
@@ -141,12 +223,47 @@ fn joins_so(is_unit: bool, tree: &[u8], names: &[u8], number: u8, value: u32) ->
     is_unit || is(joined_answer(glsl::joined(tree, names)), number, value)
 }
 
-// Whether the calls answer as the case at a place says.
-fn agrees(is_unit: bool, sample: &[u8], place: u32, room: &mut [u8]) -> bool {
+// Whether the name of the record at an index, which comes in two halves, is so.
+fn names_so(tree: &[u8], names: &[u8], low: u32, high: u32, text: &[u8]) -> bool {
+    let i = low as usize + 4294967296 * (high as usize);
+    words::same(records::name(tree, names, i), text)
+}
+
+// A state, by its level and its flags.
+fn state_of(level: u16, flags: u8) -> FormattingState {
+    FormattingState {
+        indentation_level: level,
+        new_line_pending: flags % 2 == 1,
+        in_function_definition_statement: flags / 2 == 1,
+    }
+}
+
+// The state that a call leaves.
+fn left_by(call: u8, state: FormattingState) -> FormattingState {
+    if call == CONSUME {
+        return lent::after_consume_newline(state);
+    }
+    lent::after_new_line(state, call == REQUIRED)
+}
+
+// Whether the call leaves the state so.
+fn leaves_so(before: Record, after: Record) -> bool {
+    let state = left_by(before.kind, state_of(before.count, before.variant));
+    let said = state_of(after.count, after.variant);
+    (state.indentation_level == said.indentation_level)
+        & (state.new_line_pending == said.new_line_pending)
+        & (state.in_function_definition_statement == said.in_function_definition_statement)
+}
+
+// Whether what is asked is answered as the case at a place says.
+fn agrees(asked: u8, sample: &[u8], place: u32, room: &mut [u8]) -> bool {
     let head = records::part_of(sample, place, HEAD);
     let first = records::record_at(head, 0);
     let second = records::record_at(head, 1);
     let third = records::record_at(head, 2);
+    if asked == STATES {
+        return leaves_so(first, second);
+    }
     let settings_at = end_of(place, HEAD);
     let tree_at = end_of(settings_at, first.a);
     let names_at = end_of(tree_at, first.b);
@@ -155,6 +272,10 @@ fn agrees(is_unit: bool, sample: &[u8], place: u32, room: &mut [u8]) -> bool {
     let tree = records::part_of(sample, tree_at, first.b);
     let names = records::part_of(sample, names_at, second.a);
     let after = records::part_of(sample, after_at, second.b);
+    if asked == NAMES {
+        return names_so(tree, names, third.a, third.b, after);
+    }
+    let is_unit = asked == UNITS;
     joins_so(is_unit, tree, names, second.kind, third.b)
         && prints_so_in_front(
             is_unit,
@@ -183,21 +304,21 @@ fn cases_in(sample: &[u8]) -> u32 {
     first.a
 }
 
-// Whether the sample's trees are units.
-fn has_units(sample: &[u8]) -> bool {
+// What the sample asks.
+fn asked_in(sample: &[u8]) -> u8 {
     let first = records::record_at(sample, 0);
-    first.kind == UNITS
+    first.kind
 }
 
 // The number of the first case that differs, 0 for none.
 fn first_differing(sample: &[u8], room: &mut [u8]) -> u32 {
-    let is_unit = has_units(sample);
+    let asked = asked_in(sample);
     let cases = cases_in(sample);
     let mut place: u32 = RECORD;
     let mut k: u32 = 0;
     while k < cases {
         k += 1;
-        if !agrees(is_unit, sample, place, room) {
+        if !agrees(asked, sample, place, room) {
             return k;
         }
         place = next(sample, place);
@@ -236,9 +357,40 @@ fn replay(path: &[u8], bytes: &mut [u8], room: &mut [u8]) {
     report(cases_in(sample), first_differing(sample, room));
 }
 
+// Whether settings are said by this record.
+fn is_record(settings: Settings, record: &[u8]) -> bool {
+    let bytes = settings.to_bytes();
+    words::same(&bytes, record)
+}
+
+// The number of the first of TIGHT and OPEN that is not 01's record, 0 for none.
+fn first_other_constant() -> u32 {
+    if !is_record(
+        Settings::tight(),
+        b"\x00\x00\x00\x00\x00\x00\x00\x00\x00\x00\x00\x00\x00\x00\x00\x00\x00\x00\x00\x00\x00",
+    ) {
+        return 1;
+    }
+    if !is_record(
+        Settings::open(),
+        b"\x02\x04\x01\x01\x01\x01\x01\x01\x02\x02\x02\x02\x01\x02\x02\x00\x01\x01\x01\x01\x01",
+    ) {
+        return 2;
+    }
+    0
+}
+
+// Replays all samples.
+fn replay_all(bytes: &mut [u8], room: &mut [u8]) {
+    replay(b"expressions.rec", bytes, room);
+    replay(b"units.rec", bytes, room);
+    replay(b"names.rec", bytes, room);
+    replay(b"states.rec", bytes, room);
+}
+
 fn main() {
     let mut bytes = [0u8; 524288];
     let mut room = [0u8; 16384];
-    replay(b"expressions.rec", &mut bytes, &mut room);
-    replay(b"units.rec", &mut bytes, &mut room);
+    replay_all(&mut bytes, &mut room);
+    report(2, first_other_constant());
 }

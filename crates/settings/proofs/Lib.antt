@@ -3,3 +3,4 @@ pub mod Range
 pub mod Read
 pub mod Refusal
 pub mod RoundTrip
+pub mod Contracts

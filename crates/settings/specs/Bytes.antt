@@ -1,4 +1,4 @@
--- The 21 bytes of settings (01, "Settings record"): what they are read from. No contract cites it; proofs/RoundTrip does. Assumes nothing.
+-- The 21 bytes of settings (01, "Settings record"): what `to_bytes` answers; the settings are read from them again (proofs/RoundTrip). Assumes nothing.
 use mathlib.Core.Bool.{Bool, true, false}
 use mathlib.Core.List.{List, [], _∷_}
 use Prim.Native.Nat.{ℕ}

@@ -1,7 +1,9 @@
 // The settings of the text, and the state that goes with them: 000's IndentStyle, Whitespace, FormattingSettings and FormattingState.
 ghost use mathlib.Core.Path.{_≡_};
 ghost use lib.ListN.{length};
-ghost use Rattle.settings.specs.Settings.{limits, inRange, styleOf, whitespaceOf, settingsOf, readSettings, TIGHT, OPEN};
+ghost use Rattle.settings.specs.Answer.{Reads};
+ghost use Rattle.settings.specs.Bytes.{styleByte, flagByte, whitespaceByte, settingsBytes};
+ghost use Rattle.settings.specs.Settings.{inRange, styleOf, whitespaceOf, settingsOf, TIGHT, OPEN};
 ghost use Rattle.settings.specs.State.{fresh};
 
 // What a level is indented with. (000 keeps the count in here; a record may give a count without a style, so it is a field beside. 000's tab_size is never read.)
@@ -130,6 +132,35 @@ fn whitespace_of(byte: u8) -> Whitespace
     Whitespace::Newline
 }
 
+fn style_byte(style: IndentStyle) -> u8
+    ensures { λ r. ⌜ r ≡ styleByte style ⌝ }
+{
+    match style {
+        IndentStyle::None => 0,
+        IndentStyle::Tabs => 1,
+        IndentStyle::Spaces => 2,
+    }
+}
+
+fn flag_byte(flag: bool) -> u8
+    ensures { λ r. ⌜ r ≡ flagByte flag ⌝ }
+{
+    if flag {
+        return 1;
+    }
+    0
+}
+
+fn whitespace_byte(white: Whitespace) -> u8
+    ensures { λ r. ⌜ r ≡ whitespaceByte white ⌝ }
+{
+    match white {
+        Whitespace::None => 0,
+        Whitespace::Space => 1,
+        Whitespace::Newline => 2,
+    }
+}
+
 impl Settings {
     // 01's TIGHT: all zero. It is not 000's minifying(), which collapses.
     pub const TIGHT: Settings = Settings {
@@ -226,7 +257,7 @@ impl Settings {
 
     // Reads a settings record.
     pub fn read(bytes: &[u8]) -> SettingsRead
-        ensures { λ r. ⌜ r ≡ readSettings (now (bytes .entry)) ⌝ }
+        ensures { λ r. ⌜ Reads (now (bytes .entry)) r ⌝ }
     {
         // Lent as a local: indexed in place, the constant would be rebuilt at every step.
         let limits = LIMITS;
@@ -234,6 +265,42 @@ impl Settings {
             return SettingsRead::Read(Settings::of(bytes));
         }
         SettingsRead::Refused
+    }
+
+    // The settings record that says these settings: `read` reads them from it, if the count is at most 16.
+    pub fn to_bytes(self) -> [u8; 21]
+        ensures { λ r. ⌜ r ≡ settingsBytes self ⌝ }
+    {
+        let indent_style = self.indent_style;
+        let struct_field_separator = self.struct_field_separator;
+        let struct_declaration_terminator = self.struct_declaration_terminator;
+        let declaration_terminator = self.declaration_terminator;
+        let case_label_terminator = self.case_label_terminator;
+        let statement_terminator = self.statement_terminator;
+        let function_definition_terminator = self.function_definition_terminator;
+        [
+            style_byte(indent_style),
+            self.count,
+            flag_byte(self.space_before_open_block),
+            flag_byte(self.newline_after_open_block),
+            flag_byte(self.newline_before_close_block),
+            flag_byte(self.newline_after_close_block),
+            flag_byte(self.newline_after_collapsed_statement),
+            flag_byte(self.newline_before_collapsed_statement),
+            whitespace_byte(struct_field_separator),
+            whitespace_byte(struct_declaration_terminator),
+            whitespace_byte(declaration_terminator),
+            whitespace_byte(case_label_terminator),
+            flag_byte(self.spaces_around_binary_ops),
+            whitespace_byte(statement_terminator),
+            whitespace_byte(function_definition_terminator),
+            flag_byte(self.collapse_single_item_compound_statements),
+            flag_byte(self.space_before_else),
+            flag_byte(self.space_after_list_separator),
+            flag_byte(self.space_after_for_statement_separator),
+            flag_byte(self.spaces_surrounding_initializer_list_expressions),
+            flag_byte(self.spaces_surrounding_statement_parentheses),
+        ]
     }
 
     // The state that a text starts in, the same for all settings (000's From<&FormattingSettings>).

@@ -3,6 +3,28 @@
 // a proof's folder is named after all of a cycle's members; each says which function of 000 it is. Those that are pub, besides expr, are for the printers of units.
 // A printer reads the record that its pen stands before; one that takes fields of a record (a variant, a count) works behind that record.
 // A record that is not of an expected kind is read as nothing, by the code as by the definition: so no printer asks whether the records were checked.
+//
+// name     function of 000
+// base     show_type_specifier_non_array
+// ty       show_type_specifier
+// dims     the `if let Some(..)` around show_array_spec, in show_type_specifier, show_arrayed_identifier and show_single_declaration
+// strukt   show_struct_non_declaration
+// fields   the loop over fields, in show_struct_non_declaration and show_block
+// field    show_struct_field
+// idents   the loop over identifiers, in show_struct_field
+// array    show_array_spec
+// dim      the body of its loop: one dimension
+// ident    show_arrayed_identifier
+// qualif   the `if let Some(..)` around show_type_qualifier and the space behind it, in show_fully_specified_type, show_struct_field and show_function_parameter_declaration
+// qual     show_type_qualifier
+// spec     show_type_qualifier_spec, with show_storage_qualifier, show_precision_qualifier and show_interpolation_qualifier
+// subr     show_subroutine
+// layout   show_layout_qualifier
+// id       show_layout_qualifier_spec
+// callee   show_function_identifier
+// Three are show_expr: `bare` is its match on the expression; `expr` is an operand, which is `bare` with the parentheses that 000 writes around it in each arm; and
+// `show_expr::show_expr` (lib.rt), which crates above call, is an expression by itself: `expr` that is never in parentheses.
+// Its arms with operands are functions: unary, binary, ternary, assign (Assignment), index (Bracket), call (FunCall), dot, post (PostInc and PostDec), comma.
 ghost use mathlib.Core.Path.{_≡_};
 ghost use mathlib.Core.Bool.{true, cond};
 ghost use mathlib.Core.Option.{none, some};

@@ -1,7 +1,8 @@
 //! The proved GLSL printer, called from safe Rust.
 //!
 //! A tree comes as records of 12 bytes ([`record`]) with a buffer of names, the layout as 21 bytes of settings ([`TIGHT`], [`OPEN`]
-//! or others); GLSL comes out in a room that the caller lends.
+//! or others); GLSL comes out in a room that the caller lends. docs/RECORDS.md of the repository has all kinds of records and all
+//! settings, byte by byte.
 //!
 //! ```
 //! use glsl_print::{print_expr, record, OPEN};
@@ -13,9 +14,22 @@
 //! # Ok::<(), glsl_print::Refused>(())
 //! ```
 //!
-//! Promised by each call, whatever the bytes that it gets, and proved of the library's code (crates/glsl of the repository): it
-//! returns, with the text or with the first [`Refused`]; a refusal alters no byte of the room, and the bytes behind a text are
-//! untouched; nothing is kept, and there is no heap and no state, so any number of threads may call.
+//! Promised by each call, whatever the bytes that it gets, and proved of the library's code (crates/glsl of the repository; what is
+//! trusted for that is in docs/PROMISES.md): it returns, with the text or with the first [`Refused`]; a refusal alters no byte of
+//! the room, and the bytes behind a text are untouched; nothing is kept, and there is no heap and no state, so any number of threads
+//! may call.
+//!
+//! # What a text is read as
+//!
+//! With spaces around operators (settings byte 12, as in [`OPEN`]) the text of a sound expression is read by GLSL 4.60's grammar as
+//! that expression and as no other; that is proved too. Sound leaves out a few shapes that are misread under any settings, among
+//! them minus over `--a`, which is printed as `---a`, minus over a negative IntConst, `--1`, and a field of an IntConst, `1.lf`. Without these spaces ([`TIGHT`]) signs can
+//! meet: `n - --k` is printed as `n---k`, which is read as `n-- - k`. [`joined`] tells of that beforehand; that texts without these
+//! spaces are read as they were meant otherwise is not proved. Of units nothing is promised but their text: an `if` without an
+//! `else` that is the first statement of an `if` with one takes that `else` when it is read, under any settings. docs/READING.md
+//! and docs/DIFFERENCES.md of the repository say more.
+//!
+//! # Stack
 //!
 //! A call takes up to 189,000 bytes of stack on x86-64 (a tree may be 200 levels deep): leave it 320 KiB. Rust's threads have
 //! 2 MiB unless they were asked to have less. The library's code for x86-64 touches its stack page by page as Rust's own does, so
@@ -33,10 +47,12 @@ pub use refusal::{Refusal, Refused};
 /// A settings record: how a text is laid out.
 pub type Settings = [u8; 21];
 
-/// Nothing that GLSL does not ask for: no space around operators, no line breaks.
+/// The least space: none around operators, no line breaks. The text can be read as ANOTHER expression than the tree's, as `n---k` for
+/// `n - --k`: ask [`joined`] first, and where it answers true print with spaces around operators (byte 12).
 pub const TIGHT: Settings = [0; 21];
 
-/// For people: spaces around operators, a line for each statement, indents of four spaces.
+/// For people: spaces around operators, a line for each statement, indents of four spaces. Sound expressions are read as they were
+/// meant.
 pub const OPEN: Settings = [2, 4, 1, 1, 1, 1, 1, 1, 2, 2, 2, 2, 1, 2, 2, 0, 1, 1, 1, 1, 1];
 
 /// The bytes of a record. Those of a tree stand in preorder, one behind the other.
@@ -114,7 +130,8 @@ pub fn print_expr_growing<'room>(
 }
 
 /// Asks whether an expression is joined: whether under [`TIGHT`] some binary + or - has a right operand without brackets whose
-/// text begins with the same sign, as in `a--b` for a - -b.
+/// text begins with the same sign, as in `a--b` for a - -b, so that the two signs are read as one. It tells exactly that, and today
+/// neither minus over `--a` (`---a`) or over a negative IntConst (`--1`) nor a field of an IntConst (`1.lf`).
 ///
 /// ```
 /// use glsl_print::{joined, record};

@@ -1,37 +1,41 @@
 //! What a refusal means, and the line that its place points to (document 01, "Calls").
 
-use crate::record::Record;
+use crate::record::{Record, MOST_NAMES, MOST_RECORDS};
 use crate::table::{form_of, Class, Holds};
 use crate::walk::{walk, Walk, DEEPEST};
+use crate::words::{fixed_words, has_form};
 use crate::write::{Node, Tree};
 
 /// The room of the program `print`, in bytes.
 const ROOM: usize = 65_536;
 
-/// What each refusal means, from number 1 on.
-const MEANINGS: [&str; 13] = [
-    "the settings are not 21 bytes, or one of these is out of range",
-    "there are no records, or no whole ones, or more than 4,096",
-    "the names have more than 32,768 bytes",
-    "a record is expected, and none is left",
-    "no node of this kind may stand here",
-    "the node is too deep",
-    "its kind has no such variant",
-    "it counts no children and must have one at least",
-    "a field that its kind does not use (count, a or b) is not 0",
-    "its text ends beyond the names",
-    "its text has the wrong form",
-    "records are left over behind the tree",
-    "the text is longer than the room",
+/// What each refusal means and what its place is, from number 1 on.
+pub const REFUSALS: [(&str, &str); 13] = [
+    ("the settings are not 21 bytes, or one of these is out of range", "0"),
+    ("there are no records, the bytes are no whole records, or there are more than 4,096", "0"),
+    ("the names have more than 32,768 bytes", "0"),
+    ("a record is expected, and none is left", "the number of records"),
+    ("no node of this kind may stand here", "the record"),
+    ("the node is too deep", "the record"),
+    ("its kind has no such variant", "the record"),
+    ("it counts no children and must have one at least", "the record"),
+    ("a field that its kind does not use (count, a or b) is not 0", "the record"),
+    ("its text ends beyond the names", "the record"),
+    ("its text has the wrong form", "the record"),
+    ("records are left over behind the tree", "the first of them"),
+    ("the text is longer than the room", "the length needed"),
 ];
 
-/// The lines that explain a refusal of a tree.
-pub fn explain(tree: &Tree, number: usize, place: usize) -> Vec<String> {
-    let Some(meaning) = number.checked_sub(1).and_then(|index| MEANINGS.get(index)) else {
-        return vec![format!("there is no refusal {number}; they have the numbers 1 to {}", MEANINGS.len())];
+/// The lines that explain a refusal of a tree; or why that tree is not refused so.
+pub fn explain(tree: &Tree, number: usize, place: usize) -> Result<Vec<String>, String> {
+    let Some((meaning, _)) = number.checked_sub(1).and_then(|index| REFUSALS.get(index)) else {
+        return Err(format!("there is no refusal {number}; they have the numbers 1 to {}", REFUSALS.len()));
     };
     let records: Vec<Record> = tree.nodes.iter().map(|node| node.record).collect();
     let walk = walk(&records, &tree.names);
+    if let Some(doubt) = doubt(tree, &walk, number, place) {
+        return Err(format!("this tree is not refused by {number} at {place}: {doubt}"));
+    }
     let mut lines = vec![format!("refusal {number}: {meaning}")];
     match number {
         1 => lines.push("place 0 says nothing: the tree was not looked at".into()),
@@ -42,10 +46,56 @@ pub fn explain(tree: &Tree, number: usize, place: usize) -> Vec<String> {
         )),
         3 => lines.push(format!("place 0 says nothing; here are {} bytes of names", tree.names.len())),
         4 => lines.extend(missing(tree, &walk, place)),
-        13 => lines.push(format!("the text has {place} bytes; the program has room for {ROOM}")),
+        13 => lines.push(format!(
+            "the answer asks for a room of {place} bytes, which depends on the settings and is not looked at here; the program has {ROOM}"
+        )),
         _ => lines.extend(at_node(tree, &walk, number, place)),
     }
-    lines
+    Ok(lines)
+}
+
+/// Why a tree can't be refused by a number at a place. Settings and the length of what is printed are not looked at.
+fn doubt(tree: &Tree, walk: &Walk, number: usize, place: usize) -> Option<String> {
+    let first = first_refusal(tree, walk);
+    let (possible, otherwise) = match (number, sizes_refused(tree)) {
+        (1, _) => (place == 0, "the place of that refusal is 0".into()),
+        (_, Some(first)) => (number == first && place == 0, format!("it is refused by {first} at 0")),
+        (2 | 3, None) => (false, "its records and names have sizes that are allowed".into()),
+        // An expression where a unit is printed, or the other way round.
+        (5, None) if place == 0 => (true, String::new()),
+        (13, None) if first.is_none() => (place > 0, "the text's length is the place".into()),
+        (_, None) => (first == Some((number, place)), found(first)),
+    };
+    (!possible).then_some(otherwise)
+}
+
+/// The first refusal of a tree's records, with its place: 4 to 12.
+fn first_refusal(tree: &Tree, walk: &Walk) -> Option<(usize, usize)> {
+    let fixed_words = fixed_words();
+    let misformed = |Record { kind, variant, a, b, .. }: Record| {
+        let form = form_of(kind, variant).filter(|form| form.has_text(variant));
+        let text = Record { a, b, ..Record::default() }.text(&tree.names).unwrap_or_default();
+        form.is_some_and(|form| !has_form(text, form.holds, &fixed_words))
+    };
+    let fitting = walk.refusal.map_or(walk.places.len(), |(_, place)| place);
+    let first = tree.nodes.iter().take(fitting).position(|node| misformed(node.record));
+    first.map(|place| (11, place)).or(walk.refusal.map(|(number, place)| (usize::from(number), place)))
+}
+
+/// What is found in the records.
+fn found(first: Option<(usize, usize)>) -> String {
+    match first {
+        Some((number, place)) => format!("its records are refused by {number} at {place}"),
+        None => "its records fit together".into(),
+    }
+}
+
+/// The refusal of a tree for its sizes, if there is one: 2 or 3.
+fn sizes_refused(tree: &Tree) -> Option<usize> {
+    if tree.nodes.is_empty() || tree.nodes.len() > MOST_RECORDS || !tree.rest.is_empty() {
+        return Some(2);
+    }
+    (tree.names.len() > MOST_NAMES).then_some(3)
 }
 
 /// What is missing at the end of the records.
@@ -142,7 +192,11 @@ mod tests {
     use crate::write::tree_of;
 
     fn explained(text: &str, number: usize, place: usize) -> String {
-        explain(&tree_of(text).expect("it is well-formed"), number, place).join("\n")
+        explained_or_not(text, number, place).expect("it can be")
+    }
+
+    fn explained_or_not(text: &str, number: usize, place: usize) -> Result<String, String> {
+        explain(&tree_of(text).expect("it is well-formed"), number, place).map(|lines| lines.join("\n"))
     }
 
     #[test]
@@ -181,19 +235,33 @@ mod tests {
     #[test]
     fn places_that_are_no_record() {
         assert!(explained("Unit", 13, 70000).contains("70000 bytes"));
-        assert!(explained("Unit", 3, 0).contains("0 bytes of names"));
-        assert!(explained("Unit", 7, 1).contains("which has 1"));
-        assert!(explained("Unit", 14, 0).contains("1 to 13"));
-        assert!(explained("Unit", 0, 0).contains("1 to 13"));
+        assert!(explained(&format!("Names \"{}\"\nUnit", "x".repeat(32_769)), 3, 0).contains("32769 bytes of names"));
+        assert!(explained("Bytes \"x\"", 2, 0).ends_with("0 records and 1 bytes behind them"));
+        assert!(explained("Variable \"x\"", 5, 0).contains("expected here: Unit (or an expression"));
+    }
+
+    /// Each number and place that a tree can be refused by, and no other.
+    #[test]
+    fn what_is_no_refusal_of_a_tree() {
+        let places = |text: &str| -> Vec<(usize, usize)> {
+            let pairs =
+                (0..20).chain([usize::MAX]).flat_map(|number| (0..5).chain([usize::MAX]).map(move |at| (number, at)));
+            pairs.filter(|(number, place)| explained_or_not(text, *number, *place).is_ok()).collect()
+        };
+        assert_eq!(places("Unit\n1\n2"), [(1, 0), (5, 0), (12, 1)]);
+        assert_eq!(places("PostInc\n  Variable \"if\""), [(1, 0), (5, 0), (11, 1)]);
+        assert_eq!(places("Variable \"x\"").split_off(3), [(13, 2), (13, 3), (13, 4), (13, usize::MAX)]);
+        assert_eq!(places("Comma\n  Variable \"x\"\n  7 6\n    Variable \"y\""), [(1, 0), (5, 0), (7, 2)]);
+        assert_eq!(places("Comma\n  FloatConst \"1.0\"\n  7 6\n    Variable \"y\""), [(1, 0), (5, 0), (11, 1)]);
+        assert_eq!(places("Bytes \"x\""), [(1, 0), (2, 0)]);
     }
 
     #[test]
-    fn no_number_or_place_is_too_much() {
-        let tree = tree_of("Unit\n1\n2").expect("it is well-formed");
-        for number in (0..20).chain([usize::MAX]) {
-            for place in (0..5).chain([usize::MAX]) {
-                assert!(!explain(&tree, number, place).is_empty());
-            }
-        }
+    fn doubts_say_why() {
+        let doubt = |number, place| explained_or_not("Unit", number, place).expect_err("it can't be");
+        assert_eq!(doubt(99, 3), "there is no refusal 99; they have the numbers 1 to 13");
+        assert_eq!(doubt(0, 0), "there is no refusal 0; they have the numbers 1 to 13");
+        assert_eq!(doubt(7, 1), "this tree is not refused by 7 at 1: its records fit together");
+        assert_eq!(doubt(1, 1), "this tree is not refused by 1 at 1: the place of that refusal is 0");
     }
 }

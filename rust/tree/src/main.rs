@@ -3,6 +3,7 @@
 use std::io::Write;
 use std::path::Path;
 use std::process::ExitCode;
+use tree::document::{all_blocks, filled};
 use tree::explain::explain;
 use tree::read::text_of;
 use tree::table::all_words;
@@ -13,7 +14,10 @@ tree write FILE FOLDER   makes tree.rec and names.txt in FOLDER of the readable 
 tree check FILE FOLDER   says whether they are what FILE makes
 tree read FOLDER         writes a folder's tree.rec and names.txt as readable text
 tree explain FILE N P    says what `refused N at P` means for the tree in FILE
-tree words               lists the words of all nodes, and the children of each";
+tree words               lists the words of all nodes, and the children of each
+tree records             writes the tables of docs/RECORDS.md
+tree records FILE        puts them into FILE, which has a place for each
+tree help                writes this";
 
 fn main() -> ExitCode {
     let arguments: Vec<String> = std::env::args_os().skip(1).map(|word| word.to_string_lossy().into_owned()).collect();
@@ -24,6 +28,9 @@ fn main() -> ExitCode {
         ["read", folder] => read(Path::new(folder)),
         ["explain", file, number, place] => explained(file, number, place),
         ["words"] => say(&all_words()),
+        ["records"] => say(&all_blocks()),
+        ["records", file] => fill(file),
+        ["help" | "--help" | "-h"] => say(&format!("{USAGE}\n")),
         _ => Err(USAGE.into()),
     };
     let Err(message) = done else { return ExitCode::SUCCESS };
@@ -64,8 +71,15 @@ fn read(folder: &Path) -> Result<(), String> {
 /// Writes what a refusal means.
 fn explained(file: &str, number: &str, place: &str) -> Result<(), String> {
     let parsed = |word: &str| word.parse().map_err(|_| format!("{word} is no number\n{USAGE}"));
-    let lines = explain(&load(file)?, parsed(number)?, parsed(place)?);
+    let lines = explain(&load(file)?, parsed(number)?, parsed(place)?)?;
     say(&(lines.join("\n") + "\n"))
+}
+
+/// Puts the tables into a document.
+fn fill(file: &str) -> Result<(), String> {
+    let document = std::fs::read_to_string(file).map_err(|error| format!("{file}: {error}"))?;
+    let filled = filled(&document).map_err(|fault| format!("{file}: {fault}"))?;
+    std::fs::write(file, filled).map_err(|error| format!("{file}: {error}"))
 }
 
 /// The tree of a file.

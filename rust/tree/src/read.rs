@@ -1,13 +1,10 @@
 //! Records and names become a readable text, from which `write` makes the same bytes again, whatever they are.
 
 use crate::line::quote;
-use crate::record::{split, Record};
+use crate::record::{split, Record, MOST_RECORDS};
 use crate::table::{form_of, Holds};
 use crate::walk::{walk, Place, Walk};
 use crate::write::{tree_of, Tree};
-
-/// The most records that document 01 allows.
-pub const MOST_RECORDS: usize = 4096;
 
 /// The text of a tree.rec and a names.txt.
 pub fn text_of(tree: &[u8], names: &[u8]) -> String {

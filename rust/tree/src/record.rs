@@ -3,6 +3,12 @@
 /// Bytes of a record.
 pub const SIZE: usize = 12;
 
+/// The most records that document 01 allows.
+pub const MOST_RECORDS: usize = 4_096;
+
+/// The most bytes of names that it allows.
+pub const MOST_NAMES: usize = 32_768;
+
 /// A record's fields.
 #[derive(Clone, Copy, Debug, Default, PartialEq, Eq)]
 pub struct Record {

@@ -288,7 +288,7 @@ const fn chosen(
 
 /// The table.
 #[rustfmt::skip]
-static FORMS: &[Form] = &[
+pub static FORMS: &[Form] = &[
     form(1, 0, "Variable", Name, &[]),
     form(2, 0, "IntConst", Signed, &[]),
     form(3, 0, "UIntConst", Unsigned, &[]),

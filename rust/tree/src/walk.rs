@@ -63,7 +63,7 @@ pub fn walk(records: &[Record], names: &[u8]) -> Walk {
 }
 
 /// The form of a record that fits its place, or the number of the first refusal that it gets. Forms of texts (11) are
-/// left to the printer.
+/// left to `explain`.
 fn refusal_of(record: Record, place: Place, names: &[u8]) -> Result<&'static Form, u8> {
     let Record { kind, variant, count, a, b } = record;
     if !place.class.takes_kind(kind) {

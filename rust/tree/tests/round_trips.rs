@@ -1,19 +1,12 @@
 //! What is read as text and written again is the same bytes: the examples, the recorded questions of crates/replay, and
 //! random bytes.
 
-use std::path::{Path, PathBuf};
+mod sample;
+
+use sample::{cases, examples, file, Case};
 use tree::explain::explain;
 use tree::read::text_of;
-use tree::record::{Record, SIZE};
 use tree::write::tree_of;
-
-fn repository() -> PathBuf {
-    Path::new(env!("CARGO_MANIFEST_DIR")).join("../..")
-}
-
-fn file(path: &str) -> Vec<u8> {
-    std::fs::read(repository().join(path)).unwrap_or_else(|error| panic!("{path}: {error}"))
-}
 
 /// Reads and writes; answers whether the tree was written in words.
 fn round_trip(tree: &[u8], names: &[u8]) -> bool {
@@ -32,11 +25,8 @@ fn bare(text: &str) -> String {
 
 #[test]
 fn examples_are_what_their_records_are_read_as() {
-    let folder = std::fs::read_dir(repository().join("examples")).expect("it is there");
-    let paths = folder.map(|entry| entry.expect("it can be read").path());
-    let texts: Vec<PathBuf> = paths.filter(|path| path.extension().is_some_and(|end| end == "txt")).collect();
-    assert!(texts.len() >= 4);
-    for path in texts {
+    for path in examples() {
+        let path = path.with_extension("txt");
         let text = std::fs::read_to_string(&path).expect("it is ASCII");
         let tree = tree_of(&text).unwrap_or_else(|fault| panic!("{}: {fault:?}", path.display()));
         assert_eq!(text_of(&tree.tree_bytes(), &tree.names), bare(&text), "{}", path.display());
@@ -48,34 +38,19 @@ fn the_sample_of_print() {
     assert!(round_trip(&file("crates/print/data/tree.rec"), &file("crates/print/data/names.txt")));
 }
 
-/// Takes bytes off the front.
-fn take<'b>(bytes: &mut &'b [u8], length: u32) -> &'b [u8] {
-    let (front, rest) = bytes.split_at(length.try_into().expect("it is small"));
-    *bytes = rest;
-    front
-}
-
-fn take_record(bytes: &mut &[u8]) -> Record {
-    Record::from_bytes(take(bytes, SIZE as u32).try_into().expect("it is a record"))
-}
-
-/// Each case of a sample is three records and four byte strings (crates/replay): what the print answers, then settings,
-/// records, names and room.
-fn replay(sample: &[u8]) {
-    let mut rest = sample;
-    let cases = take_record(&mut rest).a;
-    for _ in 0..cases {
-        let [print, joined, answer] = std::array::from_fn(|_| take_record(&mut rest));
-        let [_, records, names, _] = [print.a, print.b, joined.a, joined.b].map(|length| take(&mut rest, length));
-        let in_words = round_trip(records, names);
-        compare(print.kind, answer.a, in_words, &text_of(records, names));
+/// What is told of the trees of a sample is what the Rust module or the oracle answered.
+fn replay(path: &str) {
+    for Case { records, names, number, value, .. } in cases(path) {
+        let in_words = round_trip(&records, &names);
+        let text = text_of(&records, &names);
+        compare(number, value, in_words, &text);
+        explained(number.into(), value, &text);
     }
-    assert!(cases > 100 && rest.is_empty());
 }
 
 /// A tree that was printed, or not for want of room, is written in words; one that was refused for its shape, as raw
 /// records with the same refusal. Of settings, sizes and forms of names nothing is said.
-fn compare(refusal: u8, place: u32, in_words: bool, text: &str) {
+fn compare(refusal: u8, place: usize, in_words: bool, text: &str) {
     match refusal {
         0 | 13 => assert!(in_words, "{text}"),
         // A unit where an expression is printed, or the other way round: as text both can be read.
@@ -85,14 +60,33 @@ fn compare(refusal: u8, place: u32, in_words: bool, text: &str) {
     }
 }
 
+/// What was refused can be explained, with that place and no other near it. (The place of 13 is a length, and 5 at 0 can
+/// be told of any tree.)
+fn explained(number: usize, place: usize, text: &str) {
+    let tree = tree_of(text).unwrap_or_else(|fault| panic!("{fault:?} in\n{text}"));
+    // Where the settings or the root were refused, the records may have another refusal besides.
+    let others: &[usize] = if matches!((number, place), (1, _) | (5, 0)) { &[] } else { &[4, 6, 7, 8, 9, 10, 11, 12] };
+    for told in others.iter().copied().chain([number]) {
+        for at in (0..4).chain(place.saturating_sub(2)..place + 3) {
+            let is_told = explain(&tree, told, at).is_ok();
+            let must_be = (told, at) == (number, place) && number != 0;
+            assert!(
+                is_told == must_be || matches!((told, at), (13, _) | (5, 0)),
+                "{told} at {at}, {number} at {place}\n{text}"
+            );
+        }
+    }
+    assert!(number == 0 || explain(&tree, number, place).is_ok(), "{number} at {place}\n{text}");
+}
+
 #[test]
 fn recorded_expressions() {
-    replay(&file("crates/replay/data/expressions.rec"));
+    replay("crates/replay/data/expressions.rec");
 }
 
 #[test]
 fn recorded_units() {
-    replay(&file("crates/replay/data/units.rec"));
+    replay("crates/replay/data/units.rec");
 }
 
 /// A small generator of numbers that look random (xorshift).
@@ -154,7 +148,11 @@ fn random_texts() {
             (0..random.below(8)).map(|_| words[random.below(words.len() as u64)].clone() + "\n").collect()
         };
         if let Ok(tree) = tree_of(&text) {
-            assert!(!explain(&tree, random.below(15), random.below(8)).is_empty());
+            let (number, place) = (random.below(15), random.below(8));
+            match explain(&tree, number, place) {
+                Ok(lines) => assert!((1..=13).contains(&number) && lines.len() >= 2, "{lines:?}"),
+                Err(doubt) => assert!(!doubt.is_empty()),
+            }
         }
     }
 }

@@ -42,14 +42,14 @@ returns-2 c =
     let a = c .before .before .before .before .before .before .before .before .before .before .before .before .before .before .before .before .before .before .before .args in
     rewritten (rootShow (a .root) (a .s)) (rootReader (a .root)) (a .s) (a .records .now) (a .names .now) (c .before .before .before .before .before .before .before .before .before .before .before .before .before .before .before .before .before .before .before .pre) (a .room .now) (c .before .before .before .before .before .before .before .before .before .before .before .before .before .start .ensures) (c .before .before .before .before .before .before .before .before .before .before .show-root .ensures) (omega (arith, c .before .before .before .before .before .before .if1 .left)) (c .before .before .show-root2 .ensures)
 
-slice-reshare-prefix-copy : tie.Need-slice-reshare-prefix-copy
-slice-reshare-prefix-copy c = search needs
+slice-reshare-prefix-copy-text : tie.Need-slice-reshare-prefix-copy-text
+slice-reshare-prefix-copy-text c = search needs
 
-slice-aggregate-copy : tie.Need-slice-aggregate-copy
-slice-aggregate-copy c = sym (length-take-le (c .before .before .before .before .before .before .before .show-root .result .at) (c .before .before .before .before .before .before .before .show-root .last .1 .1 .1 .1 .1 .0) (omega (arith, c .before .before .if2 .left)))
+slice-aggregate-copy-text : tie.Need-slice-aggregate-copy-text
+slice-aggregate-copy-text c = sym (length-take-le (c .before .before .before .before .before .before .before .show-root .result .at) (c .before .before .before .before .before .before .before .show-root .last .1 .1 .1 .1 .1 .0) (omega (arith, c .before .before .if2 .left)))
 
-copy-requires : tie.Need-copy-requires
-copy-requires c κs = omega (arith, c .before .before .before .if1 .left, length-take-le (c .before .before .before .before .before .before .before .show-root .result .at) (c .before .before .before .before .before .before .before .show-root .last .1 .1 .1 .1 .1 .0) (omega (arith, c .before .before .if2 .left)))
+copy-text-requires : tie.Need-copy-text-requires
+copy-text-requires c κs = omega (arith, c .before .before .before .if1 .left, length-take-le (c .before .before .before .before .before .before .before .show-root .result .at) (c .before .before .before .before .before .before .before .show-root .last .1 .1 .1 .1 .1 .0) (omega (arith, c .before .before .if2 .left)))
 
 same-length-4 : tie.Need-same-length-4
 same-length-4 c = search needs
@@ -60,7 +60,7 @@ same-length-5 c = search needs
 returns-3 : tie.Need-returns-3
 returns-3 c =
     let a = c .before .before .before .before .before .before .before .before .before .before .before .before .before .before .before .before .before .before .before .args in
-    copied (rootShow (a .root) (a .s)) (rootReader (a .root)) (a .s) (a .records .now) (a .names .now) (c .before .before .before .before .before .before .before .before .before .before .before .before .before .before .before .before .before .before .before .pre) (a .room .now) (c .before .before .before .before .before .before .before .before .before .before .before .before .before .start .ensures) (c .before .before .before .before .before .before .before .before .before .before .show-root .ensures) (omega (arith, c .before .before .before .before .before .before .if1 .left)) (omega (arith, c .before .before .before .before .before .if2 .left)) (c .before .before .copy .ensures)
+    copied (rootShow (a .root) (a .s)) (rootReader (a .root)) (a .s) (a .records .now) (a .names .now) (c .before .before .before .before .before .before .before .before .before .before .before .before .before .before .before .before .before .before .before .pre) (a .room .now) (c .before .before .before .before .before .before .before .before .before .before .before .before .before .start .ensures) (c .before .before .before .before .before .before .before .before .before .before .show-root .ensures) (omega (arith, c .before .before .before .before .before .before .if1 .left)) (omega (arith, c .before .before .before .before .before .if2 .left)) (c .before .before .copy-text .ensures)
 
 pub put-by-spec : {M : Type 1} → statement M
 put-by-spec =
@@ -76,9 +76,9 @@ put-by-spec =
     same-length-2
     same-length-3
     returns-2
-    slice-reshare-prefix-copy
-    slice-aggregate-copy
-    copy-requires
+    slice-reshare-prefix-copy-text
+    slice-aggregate-copy-text
+    copy-text-requires
     same-length-4
     same-length-5
     returns-3)

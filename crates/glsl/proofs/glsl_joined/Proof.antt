@@ -14,10 +14,10 @@ joined-requires c κs = search needs
 
 joined-bits-requires : tie.Need-joined-bits-requires
 joined-bits-requires c κs =
-    subst (λ (o : Whether). joinedPlace o < 2 ^ 32) (sym (c .joined .ensures)) (question-small (c .before .before .before .args .records .now) (c .before .before .before .args .names .now))
+    subst (λ (o : Whether). joinedPlace o < 2 ^ 32) (sym (c .joined .ensures .answered)) (question-small (c .before .before .before .args .records .now) (c .before .before .before .args .names .now))
 
 returns : tie.Need-returns
-returns c = toZ-ofZ (record { sfits = c .joined-bits .ok }) ∙ c .joined-bits .ensures ∙ ap joinedBits (c .before .joined .ensures)
+returns c = toZ-ofZ (record { sfits = c .joined-bits .ok }) ∙ c .joined-bits .ensures ∙ ap joinedBits (c .before .joined .ensures .answered)
 
 pub glsl-joined-spec : {M : Type 1} → statement M
 glsl-joined-spec = tie.close (tie.spec joined-requires joined-bits-requires returns)

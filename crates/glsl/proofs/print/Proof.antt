@@ -1,10 +1,8 @@
 -- `glsl::print` meets its contract: the part is the front of what `print_into` left. Assumes nothing.
-use mathlib.Core.Path.{_∙_, ap}
 use Rattle.settings.specs.Settings.{readSettings}
 use Rattle.accept.specs.Check.{check}
 use Rattle.glsl.specs.Root.{rootClass, rootText, printOutcome}
-use Rattle.glsl.specs.Printed.{refusalNumber, refusalPlace}
-use Rattle.glsl.proofs.Outcome.{outcome-long, part-is, part-long}
+use Rattle.glsl.proofs.Outcome.{outcome-long, hands-back, part-long}
 use borrow.Author.Needs.{needs}
 use Rattle.glsl.proofs.print.Statement.{statement}
 use Rattle.glsl.proofs.print.Tie as tie
@@ -29,11 +27,8 @@ slice-aggregate-result c =
 returns : tie.Need-returns
 returns c =
     let a = c .before .before .before .before .before .before .before .before .before .before .before .before .args in
-    let e = c .before .before .before .before .before .before .print-into .ensures .answered in (
-      part-is (printOutcome (a .root) (a .settings .now) (a .records .now) (a .names .now) (a .room .now)) (rootText (a .root) (a .settings .now) (a .records .now) (a .names .now)) (a .room .now) (outcome-long (readSettings (a .settings .now)) (check (a .records .now) (a .names .now) (rootClass (a .root))) (rootText (a .root) (a .settings .now) (a .records .now) (a .names .now)) (a .room .now)) (c .before .before .before .before .before .before .print-into .ensures) (c .before .written .ensures),
-      c .before .before .before .number-of .ensures ∙ ap refusalNumber e,
-      c .before .before .place-of .ensures ∙ ap refusalPlace e,
-    )
+    hands-back (printOutcome (a .root) (a .settings .now) (a .records .now) (a .names .now) (a .room .now)) (rootText (a .root) (a .settings .now) (a .records .now) (a .names .now)) (a .room .now) (outcome-long (readSettings (a .settings .now)) (check (a .records .now) (a .names .now) (rootClass (a .root))) (rootText (a .root) (a .settings .now) (a .records .now) (a .names .now)) (a .room .now)) (c .before .before .before .before .before .before .print-into .ensures) (c .before .written .ensures)
+    (c .before .before .before .number-of .ensures) (c .before .before .place-of .ensures)
 
 pub print-spec : {M : Type 1} → statement M
 print-spec =

@@ -23,8 +23,10 @@ same-length : tie.Need-same-length
 same-length c = search needs
 
 returns : tie.Need-returns
-returns c =
-    (toZ-ofZ (record { sfits = c .printed-bits .ok }) ∙ c .printed-bits .ensures ∙ ap printedBits (c .before .before .before .print-into .ensures .answered), c .before .before .before .print-into .ensures .left)
+returns c = record {
+  answered = toZ-ofZ (record { sfits = c .printed-bits .ok }) ∙ c .printed-bits .ensures ∙ ap printedBits (c .before .before .before .print-into .ensures .answered);
+  left = c .before .before .before .print-into .ensures .left;
+}
 
 pub print-bits-spec : {M : Type 1} → statement M
 print-bits-spec =

@@ -8,13 +8,13 @@ use Rattle.replay.proofs.first_differing.Statement.{statement}
 use Rattle.replay.proofs.first_differing.Tie as tie
 
 abbrev Inv-loop : tie.InvT-loop
-Inv-loop sample room₀ is-unit cases place₀ k₀ room place k = (k ≤ cases) × (length room ≡ length room₀)
+Inv-loop sample room₀ asked cases place₀ k₀ room place k = (k ≤ cases) × (length room ≡ length room₀)
 
 abbrev μ-loop : tie.MeasureT-loop
-μ-loop sample room₀ is-unit cases place₀ k₀ room place k = cases - k
+μ-loop sample room₀ asked cases place₀ k₀ room place k = cases - k
 
-has-units-requires : tie.Need-has-units-requires Inv-loop μ-loop
-has-units-requires c κs = search needs
+asked-in-requires : tie.Need-asked-in-requires Inv-loop μ-loop
+asked-in-requires c κs = search needs
 
 cases-in-requires : tie.Need-cases-in-requires Inv-loop μ-loop
 cases-in-requires c κs = search needs
@@ -50,4 +50,4 @@ returns-2 : tie.Need-returns-2 Inv-loop μ-loop
 returns-2 c = search needs
 
 pub first-differing-spec : {M : Type 1} → statement M
-first-differing-spec = tie.close (tie.spec Inv-loop μ-loop has-units-requires cases-in-requires loop-holds add-k agrees-requires same-length returns next-requires loop-less loop-again same-length-2 returns-2)
+first-differing-spec = tie.close (tie.spec Inv-loop μ-loop asked-in-requires cases-in-requires loop-holds add-k agrees-requires same-length returns next-requires loop-less loop-again same-length-2 returns-2)

@@ -9,14 +9,17 @@ use Rattle.replay.proofs.prints_so_in_front.Tie as tie
 returns : tie.Need-returns
 returns c = search needs
 
-slice-relend-prefix-prints-so : tie.Need-slice-relend-prefix-prints-so
-slice-relend-prefix-prints-so c = search needs
+slice-relend-prefix-front : tie.Need-slice-relend-prefix-front
+slice-relend-prefix-front c = search needs
 
-slice-aggregate-prints-so : tie.Need-slice-aggregate-prints-so
-slice-aggregate-prints-so c = sym (length-take-le _ _ (omega arith))
+slice-aggregate-front : tie.Need-slice-aggregate-front
+slice-aggregate-front c = sym (length-take-le _ _ (omega arith))
 
 prints-so-requires : tie.Need-prints-so-requires
 prints-so-requires c κs = search needs
+
+hands-back-so-requires : tie.Need-hands-back-so-requires
+hands-back-so-requires c κs = search needs
 
 same-length : tie.Need-same-length
 same-length c = search needs
@@ -24,5 +27,22 @@ same-length c = search needs
 returns-2 : tie.Need-returns-2
 returns-2 c = search needs
 
+same-length-2 : tie.Need-same-length-2
+same-length-2 c = search needs
+
+returns-3 : tie.Need-returns-3
+returns-3 c = search needs
+
 pub prints-so-in-front-spec : {M : Type 1} → statement M
-prints-so-in-front-spec = tie.close (tie.spec returns slice-relend-prefix-prints-so slice-aggregate-prints-so prints-so-requires same-length returns-2)
+prints-so-in-front-spec =
+    tie.close
+    (tie.spec
+    returns
+    slice-relend-prefix-front
+    slice-aggregate-front
+    prints-so-requires
+    hands-back-so-requires
+    same-length
+    returns-2
+    same-length-2
+    returns-3)
