@@ -24,7 +24,7 @@
  * Owed by the caller:
  *   - Each pointer is valid for the length behind it, and is not null, even if that length is 0.
  *   - The room overlaps none of the other slices. (Those may overlap each other.)
- *   - 320 KiB of stack are left. A tree may be 200 levels deep; what is deeper is refused.
+ *   - 192 KiB of stack are left. A tree may be 200 levels deep; what is deeper is refused.
  */
 #ifndef GLSL_PRINT_H
 #define GLSL_PRINT_H

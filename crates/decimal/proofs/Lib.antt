@@ -2,4 +2,5 @@ pub mod Examples
 pub mod IntText
 pub mod Laws
 pub mod Places
+pub mod Powers
 pub mod Sign

@@ -1,43 +1,81 @@
--- Digits that are written from the last place back. Assumes nothing.
-use mathlib.Core.Path.{_≡_, _∙_, ap}
-use mathlib.Core.List.{List, [], _∷_, _++_}
-use Prim.Native.Nat.{ℕ, suc, _≤_, _<_, _+_, _-_, _/_, _%_}
+-- Digits that are written from the highest on, each to its place. Assumes nothing.
+use mathlib.Core.Path.{_≡_, refl, sym, _∙_, ap, ap₂}
+use mathlib.Core.List.{List}
+use Prim.Native.Nat.{ℕ, zero, suc, _≤_, _<_, _+_, _-_, _/_, _%_, _^_}
+use native.Mathlib.Nat.{mod-eq-of-lt, div-one}
 use native.Mathlib.Omega.{arith}
-use lib.ListN.{length, set}
-use lib.Seq.{sets, set-comm}
+use lib.ListN.{length, set, length-set}
+use lib.Seq.{sets}
 use Rattle.decimal.specs.Decimal.{digitByte, decimal}
-use Rattle.decimal.proofs.Laws.{decimal-small, decimal-big, length-small, length-big, length-positive}
+use Rattle.decimal.proofs.Laws.{length-positive}
+use Rattle.decimal.proofs.Powers.{power-positive, below-power, lastDigits, decimal-lastDigits, top-digit, below-top}
 
--- a run of stores may begin with the last of them
-pub sets-last : (room : List ℕ) (at : ℕ) (bs : List ℕ) (b : ℕ) → sets room at (bs ++ (b ∷ [])) ≡ sets (set room (at + length bs) b) at bs
-sets-last room at [] b = ap (λ (k : ℕ). set room k b) (omega arith)
-sets-last room at (x ∷ bs) b =
-    sets-last (set room at x) (suc at) bs b
-    ∙ ap (λ (l : List ℕ). sets l (suc at) bs) (
-    ap (λ (k : ℕ). set (set room at x) k b) (omega arith)
-    ∙ set-comm room at (at + suc (length bs)) x b (λ e. omega arith))
+-- Where the writing of n's digits stands; `end` is the place behind the last. The next digit goes to `place`, and its power of ten is `power`. `left` is what the
+-- digits from it on say, and with these written from `place` on, the room is `all`.
+pub record Standing (all : List ℕ) (n end : ℕ) (room : List ℕ) (left power place : ℕ) : Type 0 where
+  pub exponent : ℕ
+  pub is-power : power ≡ 10 ^ exponent
+  pub is-left : left ≡ n % 10 ^ suc exponent
+  pub in-front : place + suc exponent ≡ end
+  pub in-room : end ≤ length room
+  pub rest : sets room place (lastDigits (suc exponent) n) ≡ all
 
--- the room with all of n's digits, the last of them at `last`
-unfoldable pub ending : List ℕ → (last n : ℕ) → List ℕ
-ending room last n = sets room (last + 1 - length (decimal n)) (decimal n)
+-- before the first digit
+pub begins : (room : List ℕ) (at n : ℕ) → at + length (decimal n) ≤ length room → Standing (sets room at (decimal n)) n (at + length (decimal n)) room n (10 ^ (length (decimal n) - 1)) at
+begins room at n h =
+    let p = length-positive n in
+    let e : suc (length (decimal n) - 1) ≡ length (decimal n) = omega arith in record {
+      exponent = length (decimal n) - 1;
+      is-power = refl;
+      is-left = sym (ap (λ (k : ℕ). n % 10 ^ k) e ∙ mod-eq-of-lt (below-power n));
+      in-front = omega arith;
+      in-room = h;
+      rest = ap (λ (k : ℕ). sets room at (lastDigits k n)) e ∙ sym (ap (sets room at) (decimal-lastDigits n));
+    }
 
--- from 10 on: the last digit, and the others in front of it
-pub ending-big : (room : List ℕ) (last n : ℕ) → length (decimal n) ≤ last + 1 → 10 ≤ n → ending room last n ≡ ending (set room last (digitByte (n % 10))) (last - 1) (n / 10)
-unfolding ending
-ending-big room last n h b =
-    let e = length-big n b in
-    let p = length-positive (n / 10) in
-    let l = decimal (n / 10) in
-    let at = last - length l in
-    ap (λ (k : ℕ). sets room k (decimal n)) (omega arith)
-    ∙ ap (sets room at) (decimal-big n b)
-    ∙ sets-last room at l (digitByte (n % 10))
-    ∙ ap (λ (k : ℕ). sets (set room k (digitByte (n % 10))) at l) (omega arith)
-    ∙ ap (λ (k : ℕ). sets (set room last (digitByte (n % 10))) k l) (omega arith)
+module _ {all : List ℕ} {n end : ℕ} {room : List ℕ} {left power place : ℕ} (s : Standing all n end room left power place) where
+  pub positive : 0 < power
+  positive = omega (arith, power-positive (s .exponent), s .is-power)
 
--- below 10: the one digit
-pub ending-small : (room : List ℕ) (last n : ℕ) → n < 10 → ending room last n ≡ set room last (digitByte n)
-unfolding ending
-ending-small room last n s =
-    let e = length-small n s in
-    ap (λ (k : ℕ). sets room k (decimal n)) (omega arith) ∙ ap (sets room last) (decimal-small n s)
+  pub a-place : place < length room
+  a-place = omega (arith, s .in-front, s .in-room)
+
+  -- the digit that is written next
+  digit : left / power ≡ n / 10 ^ s .exponent % 10
+  digit = ap₂ (λ (m p : ℕ). m / p) (s .is-left) (s .is-power) ∙ top-digit n (s .exponent)
+
+  pub a-digit : left / power < 10
+  a-digit = omega (arith, digit)
+
+  -- behind it
+  pub goes-on : 1 < power → Standing all n end (set room place (digitByte (left / power))) (left % power) (power / 10) (place + 1)
+  unfolding lastDigits
+  goes-on h = go (s .exponent) (s .is-power) (s .is-left) (s .in-front) digit (s .rest)
+    where
+      go : (k : ℕ) → power ≡ 10 ^ k → left ≡ n % 10 ^ suc k → place + suc k ≡ end → left / power ≡ n / 10 ^ k % 10 → sets room place (lastDigits (suc k) n) ≡ all
+          → Standing all n end (set room place (digitByte (left / power))) (left % power) (power / 10) (place + 1)
+      go zero p l f d r = absurd (omega arith)
+      go (suc k) p l f d r =
+          record {
+            exponent = k;
+            is-power = omega arith;
+            is-left = ap₂ (λ (m q : ℕ). m % q) l p ∙ below-top n (suc k);
+            in-front = omega arith;
+            in-room = omega (arith, length-set room place (digitByte (left / power)), s .in-room);
+            rest = ap₂ (λ (b q : ℕ). sets (set room place (digitByte b)) q (lastDigits (suc k) n)) d (omega arith) ∙ r;
+          }
+
+  -- the last digit is what is left
+  last : power ≤ 1 → (left < 10) × (set room place (digitByte left) ≡ all)
+  unfolding lastDigits
+  last h = go (s .exponent) (s .is-power) (s .is-left) (s .rest)
+    where
+      go : (k : ℕ) → power ≡ 10 ^ k → left ≡ n % 10 ^ suc k → sets room place (lastDigits (suc k) n) ≡ all → (left < 10) × (set room place (digitByte left) ≡ all)
+      go zero p l r = (omega arith, ap (λ (b : ℕ). set room place (digitByte b)) (l ∙ sym (ap (λ (m : ℕ). m % 10) (div-one n))) ∙ r)
+      go (suc k) p l r = absurd (omega (arith, power-positive k))
+
+  pub a-last-digit : power ≤ 1 → left < 10
+  a-last-digit h = last h .0
+
+  pub ends : power ≤ 1 → set room place (digitByte left) ≡ all
+  ends h = last h .1

@@ -1,36 +1,100 @@
 // The decimal text of a number, written straight to its place, and 32 bits as a signed number.
 ghost use mathlib.Core.Path.{_≡_};
-ghost use Prim.Native.Nat.{_-_, _≤_};
+ghost use Prim.Native.Nat.{_+_, _^_, _≤_, _<_};
 ghost use lib.IntN.{natAbs};
 ghost use lib.ListN.{length};
 ghost use lib.Seq.{sets};
 ghost use Rattle.decimal.specs.Decimal.{decimal, negative, magnitude, signed};
 ghost use Rattle.room.specs.Room.{laid};
 
-// How many digits n has.
+// How many digits n has, by comparisons alone: it is asked for three times on a number's way into a text. Most numbers of a shader have one digit or two.
 pub fn width(n: u64) -> usize
     ensures { λ r. ⌜ (r ≡ length (decimal n)) × (r ≤ 20) ⌝ }
 {
-    let mut left = n;
-    let mut digits: usize = 1;
-    while 10 <= left {
-        left = left / 10;
-        digits += 1;
+    if n < 10 {
+        return 1;
     }
-    digits
+    if n < 100 {
+        return 2;
+    }
+    width_of_more(n)
 }
 
-// The digits of n up to, not including, `end`. Division gives the last digit first, so they are written from the back: no turning round.
-fn put_before(room: &mut [u8], end: usize, n: u64)
-    requires { ⌜ (length (decimal n) ≤ end) × (end ≤ length (now room)) ⌝ }
-    ensures { λ r. ⌜ now (room .exit) ≡ sets (now (room .entry)) (end - length (decimal n)) (decimal n) ⌝ }
+// How many digits a number has that has more than two. (A `match` has an arm for every number, so the first begins at 0.)
+fn width_of_more(n: u64) -> usize
+    requires { ⌜ 100 ≤ n ⌝ }
+    ensures { λ r. ⌜ (r ≡ length (decimal n)) × (r ≤ 20) ⌝ }
 {
+    match n {
+        0..=999 => 3,
+        1000..=9999 => 4,
+        10000..=99999 => 5,
+        100000..=999999 => 6,
+        1000000..=9999999 => 7,
+        10000000..=99999999 => 8,
+        100000000..=999999999 => 9,
+        1000000000..=9999999999 => 10,
+        10000000000..=99999999999 => 11,
+        100000000000..=999999999999 => 12,
+        1000000000000..=9999999999999 => 13,
+        10000000000000..=99999999999999 => 14,
+        100000000000000..=999999999999999 => 15,
+        1000000000000000..=9999999999999999 => 16,
+        10000000000000000..=99999999999999999 => 17,
+        100000000000000000..=999999999999999999 => 18,
+        1000000000000000000..=9999999999999999999 => 19,
+        10000000000000000000..=18446744073709551615 => 20,
+    }
+}
+
+// The power of ten with the exponent k. (No array: that would be built on the stack at each use.)
+fn power_of_ten(k: usize) -> u64
+    requires { ⌜ k < 20 ⌝ }
+    ensures { λ r. ⌜ r ≡ 10 ^ k ⌝ }
+{
+    match k {
+        0 => 1,
+        1 => 10,
+        2 => 100,
+        3 => 1000,
+        4 => 10000,
+        5 => 100000,
+        6 => 1000000,
+        7 => 10000000,
+        8 => 100000000,
+        9 => 1000000000,
+        10 => 10000000000,
+        11 => 100000000000,
+        12 => 1000000000000,
+        13 => 10000000000000,
+        14 => 100000000000000,
+        15 => 1000000000000000,
+        16 => 10000000000000000,
+        17 => 100000000000000000,
+        18 => 1000000000000000000,
+        _ => 10000000000000000000,
+    }
+}
+
+// The digits of n, of which there are `digits`, from `at` on: each straight to its place, the highest first (02, #104).
+fn put_from(room: &mut [u8], at: usize, digits: usize, n: u64)
+    requires { ⌜ (digits ≡ length (decimal n)) × (at + digits ≤ length (now room)) ⌝ }
+    ensures { λ r. ⌜ now (room .exit) ≡ sets (now (room .entry)) at (decimal n) ⌝ }
+{
+    // The most frequent numbers need no power.
+    if n < 10 {
+        room[at] = (48 + n) as u8;
+        return;
+    }
     let mut left = n;
-    let mut place = end - 1;
-    while 10 <= left {
-        room[place] = (48 + left % 10) as u8;
-        left = left / 10;
-        place -= 1;
+    let mut power = power_of_ten(digits - 1);
+    let mut place = at;
+    // What is left is below ten times the power, so each quotient is one digit.
+    while 1 < power {
+        room[place] = (48 + left / power) as u8;
+        left = left % power;
+        power = power / 10;
+        place += 1;
     }
     room[place] = (48 + left) as u8;
 }
@@ -47,7 +111,7 @@ pub fn put_digits(room: &mut [u8], at: usize, n: u64)
     if room.len() - digits < at {
         return;
     }
-    put_before(room, at + digits, n);
+    put_from(room, at, digits, n);
 }
 
 // Is it below 0, the 32 bits read as a signed number?

@@ -1,4 +1,5 @@
 pub mod At
+pub mod Grouped
 pub mod Lists
 pub mod Most
 pub mod Parts

@@ -6,6 +6,7 @@ use mathlib.Core.Option.{none, some}
 use Prim.Native.Char.{code}
 use Prim.Native.Nat.{ℕ, zero, suc, _+_, _-_, _<_, _≤_}
 use native.Mathlib.Omega.{arith}
+use native.Mathlib.Nat.{add-zero}
 use lib.Dec.{leb, ltb, eqb}
 use borrow.Author.Tests.{not-true, le-leb, ne-eqb}
 use Rattle.words.specs.Bytes.{bytes}
@@ -32,6 +33,8 @@ use Rattle.leaves.specs.Operand.{mostUnder}
 use Rattle.leaves.specs.Qualifier.{qualifierWord}
 use Rattle.leaves.proofs.Rows.{by-operator}
 use Rattle.leaves.proofs.Shown.{_thus_, nothing-shown, wrote, told, reads, opened, passed, standing, entered}
+use Rattle.show_expr.specs.Rest.{Choice, choice, showQuestion, showChoice}
+use Rattle.show_expr.proofs.Grouped.{ternary-of, ternary-grouped}
 use Rattle.show_expr.proofs.Most.{operand, below, under-sign, bracketed}
 use Rattle.show_expr.proofs.Parts.{Partway, piece, begin, _writes_, _shows_, so, plain, only}
 use Rattle.show_expr.proofs.At.{as-kind, word-spec, word-row, word-shown, called-type, called-expr}
@@ -46,6 +49,11 @@ space w = wrote (by-space w)
 -- brackets around what stands behind a part
 pub enclosed : (a b c d : List Command) → a ++ b ++ c ++ d ≡ a ++ (b ++ c ++ d)
 enclosed a b c d = ap (λ (l : List Command). l ++ d) (append-assoc a b c) ∙ append-assoc a (b ++ c) d
+
+-- a ternary by its two parts
+ternary-shown : (x : Expr) (c : Choice) → showQuestion x ++ showChoice c ≡ show-expr (ternary-of x c)
+unfolding show-expr
+ternary-shown x (Choice.either y z) = sym (enclosed (showQuestion x) (show-expr y) (write-binary-op Symbol.colon) (operand 15 z))
 
 -- the operand of a unary operator, read where the operator stood
 sign-at : (rs ns : List ℕ) (i j v most : ℕ) → most ≡ mostUnder v (recordAt rs i) → j ≡ i
@@ -288,18 +296,21 @@ module _ (rs ns : List ℕ) {s : Settings} where
           so show-expr
           (begin (Expr.Dot (part ns a b)) shows piece (operand 2) expr x writes put (Token.symbol Symbol.dot) refl o writes put (Token.name (part ns a b)) refl w) refl
 
-      pub ternary-parts : {room₃ room₄ room₅ : List ℕ} {p₃ p₄ p₅ : Pen} → Shows (operand 14) expr s rs ns room₀ p₀ room₂ p₂ → Ran s (write-binary-token (Token.name (bytes "?"))) room₂ p₂ room₃ p₃
-          → Shows (operand 17) expr s rs ns room₃ p₃ room₄ p₄ → Ran s (write-binary-token (Token.name (bytes ":"))) room₄ p₄ room₅ p₅ → Shows (operand 15) expr s rs ns room₅ p₅ room₁ p₁
-          → Shows show-expr (give Expr.Ternary and expr and expr and expr) s rs ns room₀ p₀ room₁ p₁
-      unfolding show-expr spell symbolText
-      ternary-parts {p₃ = p₃} {p₅ = p₅} a o b c d =
+      pub question-parts : Shows (operand 14) expr s rs ns room₀ p₀ room₂ p₂ → Ran s (write-binary-token (Token.name (bytes "?"))) room₂ p₂ room₁ p₁ → Shows showQuestion expr s rs ns room₀ p₀ room₁ p₁
+      unfolding spell symbolText
+      question-parts a o =
           let x = expr (from rs ns (p₀ .next)) .tree in
-          let y = expr (from rs ns (p₃ .next)) .tree in
-          let z = expr (from rs ns (p₅ .next)) .tree in
-          so show-expr
-          (begin Expr.Ternary shows piece (operand 14) expr a writes wrote (by-operator Symbol.question refl o) shows piece show-expr expr (plain rs ns b) writes wrote (by-operator Symbol.colon refl c)
-          shows piece (operand 15) expr d)
-          (ap (λ (e : Bool). bare-if e (show-expr x) ++ write-binary-op Symbol.question ++ show-expr y ++ write-binary-op Symbol.colon ++ operand 15 z) (below (precedence x) 15 (omega arith)))
+          told (ap (λ (e : Bool). bare-if e (show-expr x) ++ write-binary-op Symbol.question) (below (precedence x) 15 (omega arith))) (add-zero _) (a thus wrote (by-operator Symbol.question refl o))
+
+      pub choice-parts : {room₃ : List ℕ} {p₃ : Pen} → Shows (operand 17) expr s rs ns room₀ p₀ room₂ p₂ → Ran s (write-binary-token (Token.name (bytes ":"))) room₂ p₂ room₃ p₃
+          → Shows (operand 15) expr s rs ns room₃ p₃ room₁ p₁ → Shows showChoice choice s rs ns room₀ p₀ room₁ p₁
+      unfolding spell symbolText
+      choice-parts a o b = so showChoice (begin Choice.either shows piece show-expr expr (plain rs ns a) writes wrote (by-operator Symbol.colon refl o) shows piece (operand 15) expr b) refl
+
+      pub ternary-parts : Shows showQuestion expr s rs ns room₀ p₀ room₂ p₂ → Shows showChoice choice s rs ns room₂ p₂ room₁ p₁ → Shows show-expr (give Expr.Ternary and expr and expr and expr) s rs ns room₀ p₀ room₁ p₁
+      ternary-parts a b =
+          reads show-expr (give Expr.Ternary and expr and expr and expr) rs ns _ (ternary-grouped rs ns (p₀ .next)) refl refl
+          (so show-expr (begin ternary-of shows piece showQuestion expr a shows piece showChoice choice b) (ternary-shown (expr (from rs ns (p₀ .next)) .tree) (choice (from rs ns (p₂ .next)) .tree)))
 
       pub call-parts : (n : ℕ) {room₃ room₄ : List ℕ} {p₃ p₄ : Pen} → Shows show-function-identifier callee s rs ns room₀ p₀ room₂ p₂ → Wrote (bytes "(") room₂ p₂ room₃ p₃
           → Shows (λ es. show-exprs es true) (several n expr Exprs.no-exprs Exprs.exprs) s rs ns room₃ p₃ room₄ p₄ → Wrote (bytes ")") room₄ p₄ room₁ p₁

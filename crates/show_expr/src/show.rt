@@ -25,6 +25,8 @@
 // Three are show_expr: `bare` is its match on the expression; `expr` is an operand, which is `bare` with the parentheses that 000 writes around it in each arm; and
 // `show_expr::show_expr` (lib.rt), which crates above call, is an expression by itself: `expr` that is never in parentheses.
 // Its arms with operands are functions: unary, binary, ternary, assign (Assignment), index (Bracket), call (FunCall), dot, post (PostInc and PostDec), comma.
+// The two parts of a ternary (question, choice) and the arguments of a call (exprs) are functions of their own, so that all that one of them keeps on the stack is given up before
+// the next: `expr` has all arms in one frame, as large as its largest arm (docs/SPEED.md).
 ghost use mathlib.Core.Path.{_≡_};
 ghost use mathlib.Core.Bool.{true, cond};
 ghost use mathlib.Core.Option.{none, some};
@@ -32,10 +34,11 @@ ghost use lib.Dec.{leb, eqb};
 ghost use Rattle.word_table.specs.Table as Table;
 ghost use Rattle.records.specs.Record.{part};
 ghost use Rattle.text.specs.Tree.{Expr, Exprs, TypeSpecifiers, TypeSpecifierNonArray, TypeQualifierSpec, LayoutQualifier, StructFieldSpecifiers, ArrayedIdentifiers};
-ghost use Rattle.text.specs.Text.{precedence, bare-if, show-type-specifier-non-array, show-type-specifier, show-struct-fields, show-struct-field, show-array-spec, show-dimension, show-arrayed-identifier, show-arrayed-identifiers, show-qualification, show-type-qualifier, show-type-qualifier-spec, show-layout-qualifier-spec, show-expr, show-function-identifier};
+ghost use Rattle.text.specs.Text.{precedence, bare-if, show-type-specifier-non-array, show-type-specifier, show-struct-fields, show-struct-field, show-array-spec, show-dimension, show-arrayed-identifier, show-arrayed-identifiers, show-qualification, show-type-qualifier, show-type-qualifier-spec, show-layout-qualifier-spec, show-expr, show-exprs, show-function-identifier};
 ghost use Rattle.text.specs.Reading as Reading;
 ghost use Rattle.text.specs.Reading.{give, _and_, several, unaryOp, binaryOp, assignmentOp};
 ghost use Rattle.leaves.specs.Shown.{Shows};
+ghost use Rattle.show_expr.specs.Rest as Rest;
 use pen::Pen;
 use records::Record;
 use settings::Settings;
@@ -483,9 +486,25 @@ fn ternary(s: Settings, t: &Words, records: &[u8], names: &[u8], room: &mut [u8]
     requires { ⌜ now t ≡ Table.table ⌝ }
     ensures { λ r. ⌜ Shows show-expr (give Expr.Ternary and Reading.expr and Reading.expr and Reading.expr) s (now (records .entry)) (now (names .entry)) (now (room .entry)) pen (now (room .exit)) r ⌝ }
 {
+    let asked = question(s, t, records, names, room, pen);
+    choice(s, t, records, names, room, asked)
+}
+
+// In show_expr, Ternary: the condition and its mark.
+fn question(s: Settings, t: &Words, records: &[u8], names: &[u8], room: &mut [u8], pen: Pen) -> Pen
+    requires { ⌜ now t ≡ Table.table ⌝ }
+    ensures { λ r. ⌜ Shows Rest.showQuestion Reading.expr s (now (records .entry)) (now (names .entry)) (now (room .entry)) pen (now (room .exit)) r ⌝ }
+{
     let condition = expr(s, t, records, names, room, pen, BELOW_TERNARY);
-    let then = condition.write_binary_op(room, s, b"?");
-    let chosen = expr(s, t, records, names, room, then, ANY);
+    condition.write_binary_op(room, s, b"?")
+}
+
+// In show_expr, Ternary: what stands behind the mark.
+fn choice(s: Settings, t: &Words, records: &[u8], names: &[u8], room: &mut [u8], pen: Pen) -> Pen
+    requires { ⌜ now t ≡ Table.table ⌝ }
+    ensures { λ r. ⌜ Shows Rest.showChoice Rest.choice s (now (records .entry)) (now (names .entry)) (now (room .entry)) pen (now (room .exit)) r ⌝ }
+{
+    let chosen = expr(s, t, records, names, room, pen, ANY);
     let otherwise = chosen.write_binary_op(room, s, b":");
     expr(s, t, records, names, room, otherwise, precedence::TERNARY)
 }
@@ -533,7 +552,25 @@ fn call(
     ensures { λ r. ⌜ Shows show-expr (give Expr.FunCall and Reading.callee and several n Reading.expr Exprs.no-exprs Exprs.exprs) s (now (records .entry)) (now (names .entry)) (now (room .entry)) pen (now (room .exit)) r ⌝ }
 {
     let called = callee(s, t, records, names, room, pen);
-    let mut at = called.write_char(room, b'(');
+    let opened = called.write_char(room, b'(');
+    let filled = exprs(s, t, records, names, room, opened, n);
+    filled.write_char(room, b')')
+}
+
+// In show_expr, FunCall: n arguments.
+fn exprs(
+    s: Settings,
+    t: &Words,
+    records: &[u8],
+    names: &[u8],
+    room: &mut [u8],
+    pen: Pen,
+    n: u16,
+) -> Pen
+    requires { ⌜ now t ≡ Table.table ⌝ }
+    ensures { λ r. ⌜ Shows (λ es. show-exprs es true) (several n Reading.expr Exprs.no-exprs Exprs.exprs) s (now (records .entry)) (now (names .entry)) (now (room .entry)) pen (now (room .exit)) r ⌝ }
+{
+    let mut at = pen;
     let mut left = n;
     let mut first = true;
     while 0 < left {
@@ -542,7 +579,7 @@ fn call(
         first = false;
         left -= 1;
     }
-    at.write_char(room, b')')
+    at
 }
 
 // 000 show_function_identifier.

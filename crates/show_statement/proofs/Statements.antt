@@ -1,6 +1,6 @@
 -- One law a printer of statements and of what stands in them: what the calls promise, in the order of the code, is what the printer promises. Assumes nothing.
 use mathlib.Core.Path.{_≡_, refl, sym, ap, _∙_}
-use mathlib.Core.Bool.{Bool, false, not, _&&_}
+use mathlib.Core.Bool.{Bool, true, false, not, _&&_}
 use mathlib.Core.List.{List, [], _∷_, _++_, append-assoc}
 use Prim.Native.Nat.{ℕ, _+_, _<_}
 use native.Mathlib.Nat.{add-zero}
@@ -33,6 +33,7 @@ use Rattle.show_expr.proofs.Printers.{put, space, enclosed, none-there, of-row,
 use Rattle.show_simple.specs.Flushed.{behind-flush}
 use Rattle.show_simple.specs.Parts.{selection-statement, switch-statement, while-statement, do-while-statement, for-statement}
 use Rattle.show_simple.specs.Rest.{forRest, show-for-rest-statement}
+use Rattle.show_statement.specs.Around.{beforeStatements, behindStatements}
 use Rattle.show_statement.specs.Rest.{SelectionRestStatement, selectionRest, show-selection-rest-statement}
 use Rattle.show_statement.proofs.Grouped.{if-of, for-of, selection-grouped, for-grouped}
 
@@ -52,6 +53,11 @@ flush-first collapse (Statement.While c s) = refl
 flush-first collapse (Statement.DoWhile s e) = refl
 flush-first collapse (Statement.For i c e s) = refl
 flush-first collapse (Statement.OfJump j) = refl
+
+-- what stands around the statements of a compound statement, with these between, is the statement
+between : (collapsed : Bool) (cs : List Command) → beforeStatements collapsed ++ (consume-function-definition-statement ∷ []) ++ cs ++ behindStatements collapsed ≡ braced-or-collapsed collapsed cs
+between true cs = refl
+between false cs = refl
 
 -- an if statement is its condition and what stands behind it
 if-shown : (collapse : Bool) (e : Expr) (r : SelectionRestStatement)
@@ -129,15 +135,14 @@ module _ (rs ns : List ℕ) {s : Settings} where
         (append-assoc (x ++ write-else) (consume-newline ∷ []) y))
 
     -- a compound statement between what enters and what leaves it, collapsed or in braces: whether it holds one statement is what its record counts
-    pub compound-parts : (b body : Bool) (n : ℕ) {enter exit : List Command} {room₂ room₃ : List ℕ} {p₂ p₃ p₄ : Pen}
-        → ((cs : List Command) → enter ++ (consume-function-definition-statement ∷ []) ++ cs ++ exit ≡ braced-or-collapsed b cs) → not body && collapse s && eqb n 1 ≡ b → Ran s enter room₀ p₀ room₂ p₂
-        → p₃ ≡ leave (atBody false (p₂ .state)) p₂ → Shows (show-statements (collapse s)) (statements n) s rs ns room₂ p₃ room₃ p₄ → Ran s exit room₃ p₄ room₁ p₁
+    pub compound-parts : (b body : Bool) (n : ℕ) {room₂ room₃ : List ℕ} {p₂ p₃ p₄ : Pen} → not body && collapse s && eqb n 1 ≡ b → Ran s (beforeStatements b) room₀ p₀ room₂ p₂
+        → p₃ ≡ leave (atBody false (p₂ .state)) p₂ → Shows (show-statements (collapse s)) (statements n) s rs ns room₂ p₃ room₃ p₄ → Ran s (behindStatements b) room₃ p₄ room₁ p₁
         → Shows (show-compound-statement (collapse s) body) (statements n) s rs ns room₀ p₀ room₁ p₁
-    compound-parts b body n {enter = enter} {exit = exit} h t o c a x =
+    compound-parts b body n t o c a x =
         let L = from rs ns (p₀ .next) in
         let ss = statements n L .tree in
         told
-        (h (show-statements (collapse s) ss) ∙ ap (λ (y : Bool). braced-or-collapsed y (show-statements (collapse s) ss)) (sym (ap (λ (y : Bool). not body && collapse s && y) (single-item-count n L) ∙ t)))
+        (between b (show-statements (collapse s) ss) ∙ ap (λ (y : Bool). braced-or-collapsed y (show-statements (collapse s) ss)) (sym (ap (λ (y : Bool). not body && collapse s && y) (single-item-count n L) ∙ t)))
         (add-zero _) (item-behind rs ns (show-statements (collapse s)) (statements n) (o then by-consume-function-definition-statement c) a thus wrote x)
 
     module _ {room₂ room₃ room₄ room₅ : List ℕ} {p₂ p₃ p₄ p₅ : Pen} where

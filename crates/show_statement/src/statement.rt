@@ -2,20 +2,23 @@
 // show_iteration_statement, whose three kinds of record are a function each. At each call 8 * (records left) + rank falls.
 // All but show_statement and show_statements work behind the record of their statement.
 ghost use mathlib.Core.Path.{_≡_};
+ghost use mathlib.Core.Bool.{true};
 ghost use Rattle.word_table.specs.Table as Table;
 ghost use Rattle.text.specs.Text.{show-compound-statement, show-statement, show-statements};
 ghost use Rattle.text.specs.Reading as Reading;
+ghost use Rattle.pen.specs.Promise.{Ran};
 ghost use Rattle.leaves.specs.Shown.{Shows};
 ghost use Rattle.show_simple.specs.Flushed.{behind-flush};
 ghost use Rattle.show_simple.specs.Parts.{selection-statement, switch-statement, while-statement, do-while-statement, for-statement};
+ghost use Rattle.show_statement.specs.Around.{beforeStatements, behindStatements};
 ghost use Rattle.show_statement.specs.Rest.{selectionRest, show-selection-rest-statement};
 use pen::Pen;
 use settings::Settings;
 use word_table::rows::Words;
 
 // 000 show_compound_statement, behind its record, which counts n statements. Whether a function's body begins here is told by whoever calls: 000 asks the state, where it
-// is on at a function's own body and nowhere else.
-pub fn show_compound_statement(
+// is on at a function's own body and nowhere else. The one caller is show_statement, which says no: a function's own body has show_function_body.
+fn show_compound_statement(
     s: Settings,
     t: &Words,
     records: &[u8],
@@ -28,19 +31,54 @@ pub fn show_compound_statement(
     requires { ⌜ now t ≡ Table.table ⌝ }
     ensures { λ r. ⌜ Shows (show-compound-statement (s .«collapse_single_item_compound_statements») body) (Reading.statements n) s (now (records .entry)) (now (names .entry)) (now (room .entry)) pen (now (room .exit)) r ⌝ }
 {
-    if !body & s.collapse_single_item_compound_statements & (n == 1) {
-        let entered = pen.enter_collapsed_compound_statement(s);
-        let begun = entered.consume_function_definition_statement();
-        let filled = show_statements(s, t, records, names, room, begun, n);
-        return filled.exit_collapsed_compound_statement(s);
-    }
-    let entered = pen.enter_compound_statement_block(room, s);
+    let collapsed = !body & s.collapse_single_item_compound_statements & (n == 1);
+    let entered = enter_statements(s, room, pen, collapsed);
     let begun = entered.consume_function_definition_statement();
     let filled = show_statements(s, t, records, names, room, begun, n);
-    filled.exit_block(room, s)
+    exit_statements(s, room, filled, collapsed)
 }
 
-// In show_compound_statement and show_switch_statement: n statements.
+// In show_compound_statement and show_function_body: what stands before the statements, where they are collapsed and where they are in braces.
+fn enter_statements(s: Settings, room: &mut [u8], pen: Pen, collapsed: bool) -> Pen
+    ensures { λ r. ⌜ Ran s (beforeStatements collapsed) (now (room .entry)) pen (now (room .exit)) r ⌝ }
+{
+    if collapsed {
+        return pen.enter_collapsed_compound_statement(s);
+    }
+    pen.enter_compound_statement_block(room, s)
+}
+
+// And what stands behind them.
+fn exit_statements(s: Settings, room: &mut [u8], pen: Pen, collapsed: bool) -> Pen
+    ensures { λ r. ⌜ Ran s (behindStatements collapsed) (now (room .entry)) pen (now (room .exit)) r ⌝ }
+{
+    if collapsed {
+        return pen.exit_collapsed_compound_statement(s);
+    }
+    pen.exit_block(room, s)
+}
+
+// 000 show_compound_statement at a function's own body, which is never collapsed, behind its record. The printers of units call it, so that show_compound_statement has one caller and
+// is compiled into show_statement: a compound statement within another takes one frame of the stack and not two (docs/SPEED.md).
+pub fn show_function_body(
+    s: Settings,
+    t: &Words,
+    records: &[u8],
+    names: &[u8],
+    room: &mut [u8],
+    pen: Pen,
+    n: u16,
+) -> Pen
+    requires { ⌜ now t ≡ Table.table ⌝ }
+    ensures { λ r. ⌜ Shows (show-compound-statement (s .«collapse_single_item_compound_statements») true) (Reading.statements n) s (now (records .entry)) (now (names .entry)) (now (room .entry)) pen (now (room .exit)) r ⌝ }
+{
+    let entered = enter_statements(s, room, pen, false);
+    let begun = entered.consume_function_definition_statement();
+    let filled = show_statements(s, t, records, names, room, begun, n);
+    exit_statements(s, room, filled, false)
+}
+
+// In show_compound_statement, show_function_body and show_switch_statement: n statements.
 fn show_statements(
     s: Settings,
     t: &Words,

@@ -38,10 +38,10 @@ fn show_body(s: Settings, t: &Words, records: &[u8], names: &[u8], room: &mut [u
 {
     let r = records::record_at(records, pen.next);
     if r.kind != 60 {
-        return statement::show_compound_statement(s, t, records, names, room, pen, true, 0);
+        return statement::show_function_body(s, t, records, names, room, pen, 0);
     }
     let inside = leaves::past(pen, records);
-    statement::show_compound_statement(s, t, records, names, room, inside, true, r.count)
+    statement::show_function_body(s, t, records, names, room, inside, r.count)
 }
 
 // 000 show_external_declaration: what is none flushes all the same. (exit_external_declaration comes with directives.)

@@ -5,5 +5,6 @@ pub mod IntText
 pub mod OnlyLayout
 pub mod Append
 pub mod At
+pub mod Grouped
 pub mod ByKind
 pub mod Bare

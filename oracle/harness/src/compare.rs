@@ -202,6 +202,7 @@ fn families<'a>(
         family("deep", Box::new(limits::deep().chain(limits::deep_trees(trees)))),
         family("levels", Box::new(limits::levels())),
         family("sizes", Box::new(limits::sizes())),
+        family("numbers", Box::new(limits::whole_numbers())),
         family("long texts", Box::new(limits::long_texts())),
         family("short texts", Box::new(limits::short_texts())),
         family("offsets", Box::new(limits::offsets())),

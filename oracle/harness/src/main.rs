@@ -1,4 +1,4 @@
-//! The program `harness`: compares static libraries with the oracle, and times them.
+//! The program `harness`: compares static libraries with the oracle, and times them, also beside another build.
 
 mod ask;
 mod compare;
@@ -6,13 +6,16 @@ mod library;
 mod speed;
 mod stack;
 
+use library::Loaded;
 use oracle::answer::Root;
 use std::process::ExitCode;
 
 const USAGE: &str = "\
 usage: harness check SEED CASES   asks a library and the oracle for the record check
        harness print SEED CASES   asks a library and the oracle for texts, and whether they are joined
-       harness speed SEED         times the calls there are, beside the Rust module's print, and measures their stacks
+       harness speed SEED [BEFORE]
+                                  times the calls there are, beside the Rust module's print, and measures their stacks;
+                                  BEFORE is a shared library with another build's calls, which take turns with ours
 CASES grown trees are asked for; the other questions are the same in every run but for SEED's trees.";
 
 /// Messages where a library was not linked.
@@ -39,6 +42,11 @@ fn main() -> ExitCode {
 
 fn run(arguments: &[&str]) -> Verdict {
     let number = |word: &str| word.parse::<u64>().map_err(|error| format!("{word}: {error}"));
+    let speed = |seed: &str, before: Option<&str>| {
+        let seed = number(seed)?;
+        let before = before.map(Loaded::open).transpose()?;
+        speed::run(seed, before).map(|()| true).map_err(|refusal| refusal.to_string())
+    };
     match *arguments {
         ["check", seed, cases] => {
             let check = library::CHECK.ok_or(NO_CHECK)?;
@@ -55,7 +63,8 @@ fn run(arguments: &[&str]) -> Verdict {
             });
             Ok(verdicts == [true; 2])
         }
-        ["speed", seed] => speed::run(number(seed)?).map(|()| true).map_err(|refusal| refusal.to_string()),
+        ["speed", seed] => speed(seed, None),
+        ["speed", seed, before] => speed(seed, Some(before)),
         _ => Err(USAGE.to_owned()),
     }
 }

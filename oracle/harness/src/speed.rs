@@ -1,10 +1,11 @@
 //! Times: the libraries' calls, and beside them the Rust module's print of the same trees, built before. And how much stack
-//! they take on the deepest trees.
+//! they take on the deepest trees. Another build's calls can be had beside them, in the same run.
 //!
 //! A time is the least of many runs, since what else the machine does can only add to it. Every tree has its turn before
 //! one comes again: a processor that sees one tree alone soon knows its branches by heart.
 
-use crate::{library, stack, ROOTS};
+use crate::library::{self, Loaded};
+use crate::{stack, ROOTS};
 use glsl_lang::ast;
 use glsl_lang::transpiler::glsl::FormattingSettings;
 use oracle::answer::{Question, Root};
@@ -81,8 +82,9 @@ impl Call {
     }
 }
 
-/// The record check first, if there is one; the print and the joined question, if there are; and the Rust module's print.
-fn calls(root: Root) -> Result<Vec<Call>, Refusal> {
+/// The record check first, if there is one; the print and the joined question, if there are; these of another build, if
+/// there is one; and the Rust module's print.
+fn calls(root: Root, before: Option<Loaded>) -> Result<Vec<Call>, Refusal> {
     let mut calls = Vec::new();
     if let Some(check) = library::CHECK {
         calls.push(Call::new("check", move |sample, _| check(&sample.tight)));
@@ -93,6 +95,13 @@ fn calls(root: Root) -> Result<Vec<Call>, Refusal> {
         calls.push(Call::new("print OPEN", move |sample, room| print(&sample.open, room)));
         if root == Root::Expr {
             calls.push(Call::new("joined", move |sample, _| (linked.joined)(&sample.tight)));
+        }
+    }
+    if let Some(before) = before {
+        calls.push(Call::new("before TIGHT", move |sample, room| before.print(root, &sample.tight, room)));
+        calls.push(Call::new("before OPEN", move |sample, room| before.print(root, &sample.open, room)));
+        if root == Root::Expr {
+            calls.push(Call::new("before joined", move |sample, _| before.joined(&sample.tight)));
         }
     }
     for (name, bytes) in [("Rust TIGHT", settings::TIGHT), ("Rust OPEN", settings::OPEN)] {
@@ -127,8 +136,10 @@ fn least(calls: &[Call], sorts: &[Sort]) -> Vec<Vec<f64>> {
         for (call, least) in calls.iter().zip(&mut least) {
             for (sample, least) in sorts.iter().flat_map(|sort| &sort.samples).zip(least.iter_mut().flatten()) {
                 let start = Instant::now();
-                black_box((call.run)(sample, &mut room));
+                let answer = black_box((call.run)(sample, &mut room));
                 *least = start.elapsed().min(*least);
+                // A refusal would only look fast.
+                assert!(answer >= 0, "{} refuses a good tree: {answer}", call.name);
             }
         }
     }
@@ -139,22 +150,28 @@ fn least(calls: &[Call], sorts: &[Sort]) -> Vec<Vec<f64>> {
     (0..sorts.len()).map(each).collect()
 }
 
-/// Prints the tables.
-pub fn run(seed: u64) -> Result<(), Refusal> {
+/// Prints the tables, with the calls of another build if there is one.
+pub fn run(seed: u64, before: Option<Loaded>) -> Result<(), Refusal> {
     for root in ROOTS {
-        let calls = calls(root)?;
-        let sorts = sorts(root, seed)?;
-        let heading: String = calls.iter().map(|call| format!("{:>12}", call.name)).collect();
-        println!("{:<20}{heading}", format!("{root:?}, ns a record"));
-        for (sort, times) in sorts.iter().zip(least(&calls, &sorts)) {
-            println!("{:<20}{}", sort.name, times.iter().map(|time| format!("{time:>12.1}")).collect::<String>());
-        }
+        let calls = calls(root, before)?;
+        table(&format!("{root:?}"), &calls, &sorts(root, seed)?);
         println!("{:<20}{}\n", "bytes of stack", stacks(root, &calls)?);
     }
+    table("Numbers", &calls(Root::Expr, before)?, &numbers(seed)?);
+    println!();
     if library::CHECK.is_some() {
         names(seed)?;
     }
     Ok(())
+}
+
+/// Prints a table of times.
+fn table(name: &str, calls: &[Call], sorts: &[Sort]) {
+    let heading: String = calls.iter().map(|call| format!("{:>14}", call.name)).collect();
+    println!("{:<20}{heading}", format!("{name}, ns a record"));
+    for (sort, times) in sorts.iter().zip(least(calls, sorts)) {
+        println!("{:<20}{}", sort.name, times.iter().map(|time| format!("{time:>14.1}")).collect::<String>());
+    }
 }
 
 /// The trees on which times are taken.
@@ -177,6 +194,24 @@ fn sorts(root: Root, seed: u64) -> Result<Vec<Sort>, Refusal> {
     Ok(sorts)
 }
 
+/// Calls with whole numbers alone: of each length of 1 to 10 digits, of all these lengths, the same below 0 and unsigned, and
+/// a shader's.
+fn numbers(seed: u64) -> Result<Vec<Sort>, Refusal> {
+    use large::{Number, MOST_DIGITS};
+    let seeds = seed..seed + TREES;
+    let sort = |name: &str, number, least, most| {
+        Sort::new(name, seeds.clone().map(|seed| large::numbers(seed, number, least, most)))
+    };
+    let each = (1..=MOST_DIGITS).map(|digits| sort(&format!("digits {digits}"), Number::Int, digits, digits));
+    let mut sorts = each.collect::<Result<Vec<_>, _>>()?;
+    let mixed = [("digits 1 to 10", Number::Int), ("negative", Number::Negative), ("unsigned", Number::UInt)];
+    for (name, number) in mixed {
+        sorts.push(sort(name, number, 1, MOST_DIGITS)?);
+    }
+    sorts.push(Sort::new("a shader's", seeds.map(large::shader_numbers))?);
+    Ok(sorts)
+}
+
 /// The most bytes of stack that each call takes on the deepest trees.
 fn stacks(root: Root, calls: &[Call]) -> Result<String, Refusal> {
     let deepest = Sort::new("deepest", limits::deepest().filter(|question| question.root == root))?;
@@ -187,7 +222,7 @@ fn stacks(root: Root, calls: &[Call]) -> Result<String, Refusal> {
         })
     };
     let most = calls.iter().map(|call| deepest.samples.iter().map(|sample| need(call, sample)).max().unwrap_or(0));
-    Ok(most.map(|bytes| format!("{bytes:>12}")).collect())
+    Ok(most.map(|bytes| format!("{bytes:>14}")).collect())
 }
 
 /// Prints what a name costs in the record check, which is the first call.
@@ -198,7 +233,7 @@ fn names(seed: u64) -> Result<(), Refusal> {
         let [variables, _] = large::atoms(seed, &texts);
         sorts.push(Sort::new(name, [variables])?);
     }
-    let least = least(&calls(Root::Expr)?[..1], &sorts);
+    let least = least(&calls(Root::Expr, None)?[..1], &sorts);
     println!("ns a name in the check, beyond a bool in its place");
     for (sort, times) in sorts.iter().zip(&least).skip(1) {
         let beyond = (times[0] - least[0][0]) * sort.records() as f64 / f64::from(large::ATOMS);

@@ -1,4 +1,5 @@
-//! Trees of many records, on which times are taken: grown ones, ones like a shader's, deep ones, and calls with many names.
+//! Trees of many records, on which times are taken: grown ones, ones like a shader's, deep ones, and calls with many names
+//! or numbers.
 
 use super::tight;
 use crate::answer::{Question, Root};
@@ -78,6 +79,13 @@ impl Whole {
 
     fn question(self) -> Question {
         tight(self.root, all(&[&self.front(), &self.records]), self.names)
+    }
+
+    /// A call of [`ATOMS`] arguments, each a record; the names are those there are.
+    fn call(&mut self, mut atom: impl FnMut(&mut Random) -> Record) -> Question {
+        self.children = ATOMS;
+        let atoms: Vec<u8> = (0..ATOMS).flat_map(|_| atom(&mut self.random).to_bytes()).collect();
+        tight(self.root, all(&[&self.front(), &atoms]), self.names.clone())
     }
 }
 
@@ -370,7 +378,7 @@ impl Shader {
                 self.put_text(5, 0, 0, text);
             }
             Some(2) => {
-                let a = self.whole.random.bits32() % 16;
+                let a = shader_number(&mut self.whole.random);
                 self.put_text(2, 0, 0, (a, 0));
             }
             Some(3) => {
@@ -401,30 +409,75 @@ impl Shader {
     }
 }
 
-/// Arguments of the calls that [`atoms`] makes.
+/// A whole number as [`shader`] has them.
+fn shader_number(random: &mut Random) -> u32 {
+    random.bits32() % 16
+}
+
+/// Arguments of the calls that [`atoms`], [`numbers`] and [`shader_numbers`] make.
 pub const ATOMS: u16 = 4_000;
 
 /// Two calls of [`ATOMS`] arguments: each a variable, named by one of the texts at random; each a bool.
 pub fn atoms(seed: u64, texts: &[Vec<u8>]) -> [Question; 2] {
     let mut whole = Whole::new(Root::Expr, seed);
     let places: Pool = texts.iter().map(|text| put(&mut whole.names, text)).collect();
-    whole.children = ATOMS;
-    let Whole { random, names, .. } = &mut whole;
-    let variables = (0..ATOMS).map(|_| {
+    let variables = whole.call(|random| {
         let (a, b) = Shader::one_of(random, &places);
         Record { kind: 1, a, b, ..Record::default() }
     });
-    let variables: Vec<u8> = variables.flat_map(Record::to_bytes).collect();
-    let bools = (0..ATOMS).map(|_| Record { kind: 4, variant: random.byte(1), ..Record::default() });
-    let bools: Vec<u8> = bools.flat_map(Record::to_bytes).collect();
-    let names = std::mem::take(names);
-    [variables, bools].map(|atoms| tight(Root::Expr, all(&[&whole.front(), &atoms]), names.clone()))
+    let bools = whole.call(|random| Record { kind: 4, variant: random.byte(1), ..Record::default() });
+    [variables, bools]
+}
+
+/// The most digits of a whole number.
+pub const MOST_DIGITS: u32 = 10;
+
+/// Which whole numbers are the arguments of a call.
+#[derive(Clone, Copy, Debug, PartialEq, Eq)]
+pub enum Number {
+    /// An IntConst above 0.
+    Int,
+    /// An IntConst below 0.
+    Negative,
+    /// A UIntConst above 0.
+    UInt,
+}
+
+impl Number {
+    /// A record of such a number with so many digits, 1 to [`MOST_DIGITS`].
+    fn record(self, random: &mut Random, digits: u32) -> Record {
+        let (kind, greatest) = match self {
+            Self::Int | Self::Negative => (2, i32::MAX.unsigned_abs()),
+            Self::UInt => (3, u32::MAX),
+        };
+        let least = 10_u32.pow(digits - 1);
+        // Ten times the least has a digit more, or is beyond 32 bits.
+        let most = least.checked_mul(10).map_or(greatest, |more| more - 1);
+        let number = least + random.bits32() % (most - least + 1);
+        let a = if self == Self::Negative { number.wrapping_neg() } else { number };
+        Record { kind, a, ..Record::default() }
+    }
+}
+
+/// A call of [`ATOMS`] arguments: whole numbers of least to most digits. The length is chosen first, so that there are
+/// as many short ones as long ones.
+pub fn numbers(seed: u64, number: Number, least: u32, most: u32) -> Question {
+    Whole::new(Root::Expr, seed).call(|random| {
+        let digits = least + random.bits32() % (most - least + 1);
+        number.record(random, digits)
+    })
+}
+
+/// A call of [`ATOMS`] arguments: IntConsts as [`shader`] has them.
+pub fn shader_numbers(seed: u64) -> Question {
+    Whole::new(Root::Expr, seed).call(|random| Record { kind: 2, a: shader_number(random), ..Record::default() })
 }
 
 #[cfg(test)]
 mod tests {
     use super::*;
     use crate::answer::{answer, Outcome};
+    use std::collections::BTreeSet;
 
     fn is_good(question: &Question) -> bool {
         matches!(answer(question).text, Outcome::Given(_))
@@ -455,5 +508,37 @@ mod tests {
             assert!(is_good(&call));
             assert_eq!(call.records.len() / SIZE, 4_002);
         }
+    }
+
+    /// The arguments' texts.
+    fn arguments(call: &Question) -> Vec<String> {
+        let Outcome::Given(text) = answer(call).text else {
+            panic!("a good tree");
+        };
+        let inside = text.strip_prefix("f(").and_then(|text| text.strip_suffix(')')).expect("a call of f");
+        inside.split(',').map(str::to_owned).collect()
+    }
+
+    #[test]
+    fn numbers_have_the_digits_that_are_asked_for() {
+        let mixed = (1, MOST_DIGITS);
+        for (least, most) in (1..=MOST_DIGITS).map(|digits| (digits, digits)).chain([mixed]) {
+            for (number, front, back) in [(Number::Int, "", ""), (Number::Negative, "-", ""), (Number::UInt, "", "u")] {
+                let texts = arguments(&numbers(1, number, least, most));
+                let digits = |text: &str| Some(text.strip_prefix(front)?.strip_suffix(back)?.to_owned());
+                let numbers: Option<Vec<String>> = texts.iter().map(|text| digits(text)).collect();
+                let numbers = numbers.expect("all have the sign and the suffix");
+                assert_eq!(numbers.len(), usize::from(ATOMS));
+                assert!(numbers.iter().flat_map(|text| text.bytes()).all(|byte| byte.is_ascii_digit()));
+                let lengths: BTreeSet<usize> = numbers.iter().map(String::len).collect();
+                assert!(lengths.into_iter().eq(least as usize..=most as usize), "{number:?} of {least} to {most}");
+            }
+        }
+    }
+
+    #[test]
+    fn numbers_of_a_shader_are_small() {
+        let texts: BTreeSet<String> = arguments(&shader_numbers(1)).into_iter().collect();
+        assert_eq!(texts, (0..16).map(|number| number.to_string()).collect());
     }
 }

@@ -215,6 +215,17 @@ pub fn sizes() -> impl Iterator<Item = Question> {
     })
 }
 
+/// Whole numbers by themselves: all of up to four digits, and those around each power of ten and of two. Each as an IntConst,
+/// as one with the other sign, and as a UIntConst.
+pub fn whole_numbers() -> impl Iterator<Item = Question> {
+    let powers = (0..10).map(|exponent| 10_u32.pow(exponent)).chain((0..u32::BITS).map(|exponent| 1 << exponent));
+    let around = powers.flat_map(|power| (0..5).map(move |step| power.wrapping_sub(2).wrapping_add(step)));
+    (0..10_000).chain(around).flat_map(|number| {
+        let records = [int(number), int(number.wrapping_neg()), rec(3, 0, 0, number, 0)];
+        records.map(|record| tight(Root::Expr, record, NAMES))
+    })
+}
+
 /// A record with a text, in the middle of names: a name (kind 1) or a float (kinds 5 and 6).
 fn text(kind: u8, text: &[u8]) -> Question {
     let length = u32::try_from(text.len()).unwrap_or(u32::MAX);
@@ -373,6 +384,24 @@ mod tests {
     fn sizes_are_refused_and_passed() {
         let numbers = numbers(sizes());
         assert!([0, 2, 3, 4, 10].iter().all(|number| numbers.contains_key(number)), "{numbers:?}");
+    }
+
+    #[test]
+    fn whole_numbers_have_every_length() {
+        let texts: std::collections::BTreeSet<String> = whole_numbers()
+            .map(|question| match answer(&question).text {
+                Outcome::Given(text) => text,
+                other => panic!("{other:?}"),
+            })
+            .collect();
+        // The least and the greatest of each length, below 0 and unsigned too.
+        for digits in 1..=9 {
+            let [least, greatest] = [format!("1{}", "0".repeat(digits - 1)), "9".repeat(digits)];
+            for text in [least, greatest] {
+                assert!([text.clone(), format!("-{text}"), format!("{text}u")].iter().all(|text| texts.contains(text)));
+            }
+        }
+        assert!(["0", "0u", "2147483647", "-2147483648", "4294967295u"].iter().all(|&text| texts.contains(text)));
     }
 
     #[test]

@@ -31,7 +31,7 @@
 //!
 //! # Stack
 //!
-//! A call takes up to 189,000 bytes of stack on x86-64 (a tree may be 200 levels deep): leave it 320 KiB. Rust's threads have
+//! A call takes up to 126,000 bytes of stack on x86-64 (a tree may be 200 levels deep): leave it 192 KiB. Rust's threads have
 //! 2 MiB unless they were asked to have less. The library's code for x86-64 touches its stack page by page as Rust's own does, so
 //! a call with too little of it ends the program at the guard page.
 

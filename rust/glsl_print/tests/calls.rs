@@ -170,6 +170,12 @@ fn bad_records_are_refused_where_they_stand() {
     bad(&[a, a], Refusal::RecordsLeftOver, 1);
 }
 
+/// Runs a call in a thread with the stack that a caller is asked for.
+fn on_the_stack_asked_for<T: Send + 'static>(call: impl FnOnce() -> T + Send + 'static) -> T {
+    let thread = std::thread::Builder::new().stack_size(192 << 10).spawn(call).expect("a thread");
+    thread.join().expect("it ends")
+}
+
 #[test]
 fn the_deepest_unit_fits_the_stack_that_is_asked_for() {
     // A function whose body is compounds in one another: unit, function, compounds, the last at depth 200.
@@ -177,7 +183,15 @@ fn the_deepest_unit_fits_the_stack_that_is_asked_for() {
     let compounds = [vec![record(60, 0, 1, 0, 0); 197], vec![plain(60, 0)]].concat();
     let records = [head, compounds].concat().concat();
     let print = move || print_unit_growing(&TIGHT, &records, NAMES, &mut Vec::new()).map(str::len);
-    let thread = std::thread::Builder::new().stack_size(320 << 10).spawn(print).expect("a thread");
-    let text = "void f()".len() + 2 * 198;
-    assert_eq!(thread.join().expect("it ends"), Ok(text));
+    assert_eq!(on_the_stack_asked_for(print), Ok("void f()".len() + 2 * 198));
+}
+
+#[test]
+fn the_deepest_expression_fits_the_stack_that_is_asked_for() {
+    let records = [vec![NOT; 199], vec![variable(b'a')]].concat().concat();
+    let both = move || {
+        let text = print_expr_growing(&TIGHT, &records, NAMES, &mut Vec::new()).map(str::len);
+        (text, joined(&records, NAMES))
+    };
+    assert_eq!(on_the_stack_asked_for(both), (Ok(200), Ok(false)));
 }

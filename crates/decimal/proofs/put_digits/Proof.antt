@@ -1,9 +1,7 @@
 -- `decimal::put_digits` meets its contract: both tests together say whether the digits fit. Assumes nothing.
-use mathlib.Core.Path.{sym, _∙_, ap}
-use Prim.Native.Nat.{ℕ}
+use mathlib.Core.Path.{sym, _∙_}
 use native.Mathlib.Omega.{arith}
 use borrow.Author.Needs.{needs}
-use lib.Seq.{sets}
 use Rattle.decimal.specs.Decimal.{decimal}
 use Rattle.room.proofs.Laid.{laid-fits, laid-out}
 use Rattle.decimal.proofs.put_digits.Statement.{statement}
@@ -21,11 +19,8 @@ sub-if2 c = search needs
 returns-2 : tie.Need-returns-2
 returns-2 c = sym (laid-out _ _ _ (omega arith))
 
-add-put-before : tie.Need-add-put-before
-add-put-before c = search needs
-
-put-before-requires : tie.Need-put-before-requires
-put-before-requires c κs = search needs
+put-from-requires : tie.Need-put-from-requires
+put-from-requires c κs = search needs
 
 same-length : tie.Need-same-length
 same-length c = search needs
@@ -33,10 +28,7 @@ same-length c = search needs
 returns-3 : tie.Need-returns-3
 returns-3 c =
     let a = c .before .before .before .before .before .before .before .before .args in
-    let ds = decimal (a .n) in
-    c .before .before .put-before .ensures
-    ∙ ap (λ (k : ℕ). sets (a .room .now) k ds) (omega arith)
-    ∙ sym (laid-fits (a .room .now) (a .at) ds (omega arith))
+    c .before .before .put-from .ensures ∙ sym (laid-fits (a .room .now) (a .at) (decimal (a .n)) (omega arith))
 
 pub put-digits-spec : {M : Type 1} → statement M
 put-digits-spec =
@@ -46,7 +38,6 @@ put-digits-spec =
     returns
     sub-if2
     returns-2
-    add-put-before
-    put-before-requires
+    put-from-requires
     same-length
     returns-3)

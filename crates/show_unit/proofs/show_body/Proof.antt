@@ -14,21 +14,21 @@ use Rattle.show_unit.proofs.show_body.Tie as tie
 record-at-requires : tie.Need-record-at-requires
 record-at-requires c κs = search needs
 
-show-compound-statement-requires : tie.Need-show-compound-statement-requires
-show-compound-statement-requires c κs = search needs
+show-function-body-requires : tie.Need-show-function-body-requires
+show-function-body-requires c κs = search needs
 
 returns : tie.Need-returns
-returns c = no-body (c .before .before .before .before .before .before .before .before .before .before .args .records .now) (c .before .before .before .before .before .before .before .before .before .before .args .names .now) (c .before .before .before .before .before .before .before .before .before .before .args .s .«collapse_single_item_compound_statements») (c .before .before .before .before .before .before .record-at .ensures) (c .before .before .before .before .if1 .taken) (show-compound-statement (c .before .before .before .before .before .before .before .before .before .before .args .s .«collapse_single_item_compound_statements») true) (c .before .before .show-compound-statement .ensures)
+returns c = no-body (c .before .before .before .before .before .before .before .before .before .before .args .records .now) (c .before .before .before .before .before .before .before .before .before .before .args .names .now) (c .before .before .before .before .before .before .before .before .before .before .args .s .«collapse_single_item_compound_statements») (c .before .before .before .before .before .before .record-at .ensures) (c .before .before .before .before .if1 .taken) (show-compound-statement (c .before .before .before .before .before .before .before .before .before .before .args .s .«collapse_single_item_compound_statements») true) (c .before .before .show-function-body .ensures)
 
 past-requires : tie.Need-past-requires
 past-requires c κs = search needs
 
-show-compound-statement-requires-2 : tie.Need-show-compound-statement-requires-2
-show-compound-statement-requires-2 c κs = search needs
+show-function-body-requires-2 : tie.Need-show-function-body-requires-2
+show-function-body-requires-2 c κs = search needs
 
 returns-2 : tie.Need-returns-2
 unfolding itemOf compoundOf
-returns-2 c = of-row (c .before .before .before .before .before .before .before .before .before .before .before .args .records .now) (c .before .before .before .before .before .before .before .before .before .before .before .args .names .now) (c .before .before .before .before .before .before .before .record-at .ensures) (λ (x : Item). x .compound) _ (show-compound-statement (c .before .before .before .before .before .before .before .before .before .before .before .args .s .«collapse_single_item_compound_statements») true) 60 (statements (c .before .before .before .before .before .before .before .record-at .result .count)) refl (omega arith) (c .before .before .before .before .before .if1 .left) (c .before .before .before .before .past .ensures) (c .before .before .show-compound-statement2 .ensures)
+returns-2 c = of-row (c .before .before .before .before .before .before .before .before .before .before .before .args .records .now) (c .before .before .before .before .before .before .before .before .before .before .before .args .names .now) (c .before .before .before .before .before .before .before .record-at .ensures) (λ (x : Item). x .compound) _ (show-compound-statement (c .before .before .before .before .before .before .before .before .before .before .before .args .s .«collapse_single_item_compound_statements») true) 60 (statements (c .before .before .before .before .before .before .before .record-at .result .count)) refl (omega arith) (c .before .before .before .before .before .if1 .left) (c .before .before .before .before .past .ensures) (c .before .before .show-function-body2 .ensures)
 
 same-length : tie.Need-same-length
 same-length c = shown-length (returns c)
@@ -41,10 +41,10 @@ show-body-spec =
     tie.close
     (tie.spec
     record-at-requires
-    show-compound-statement-requires
+    show-function-body-requires
     same-length
     returns
     past-requires
-    show-compound-statement-requires-2
+    show-function-body-requires-2
     same-length-2
     returns-2)
