@@ -17,7 +17,8 @@ use Rattle.text.specs.Tree.TypeSpecifier.{no-type, type}
 use Rattle.text.specs.Tree.TypeSpecifierNonArray.{no-base, Keyword, TypeName, Struct}
 use Rattle.text.specs.Tree.ArraySpecifier.{no-dimensions, dimensions}
 use Rattle.text.specs.Tree.ArraySpecifierDimension.{no-dimension, Unsized, ExplicitlySized}
-use Rattle.text.specs.Text.{precedence, postfix-precedence, doubles, in-square-brackets, show-expr, show-exprs, show-function-identifier, show-type-specifier, show-type-specifier-non-array, show-array-spec, show-dimension}
+use Rattle.text.specs.Operator.{precedence, postfix-precedence, doubles}
+use Rattle.text.specs.Text.{in-square-brackets, show-expr, show-exprs, show-function-identifier, show-type-specifier, show-type-specifier-non-array, show-array-spec, show-dimension}
 use Rattle.grammar.specs.Same.{Same, type-callee, indexed-callee, as-read, exprs-as-read, callee-as-read, type-as-read, array-as-read, dimension-as-read}
 
 -- all that a text takes from an expression in it: its commands, how strongly it binds, whether an operator before it would be doubled

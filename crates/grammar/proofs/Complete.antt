@@ -16,7 +16,7 @@ use Rattle.text.specs.Tree.Expr.{Unary, Binary, Ternary, Assignment, Bracket, D
 use Rattle.text.specs.Tree.Exprs.{no-exprs}
 use Rattle.text.specs.Tree.ArraySpecifier.{no-dimensions}
 use Rattle.text.specs.Tree.ArraySpecifierDimension.{Unsized, ExplicitlySized}
-use Rattle.text.specs.Text.{unary-symbol, binary-symbol, assignment-symbol}
+use Rattle.text.specs.Operator.{unary-symbol, binary-symbol, assignment-symbol}
 use Rattle.grammar.specs.Chapter9.{void}
 use Rattle.grammar.specs.Last.{last-expr, last-dimension}
 use Rattle.grammar.specs.Strength.{under}

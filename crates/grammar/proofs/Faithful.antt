@@ -16,7 +16,7 @@ use Rattle.text.specs.Tree.Expr.{Bracket, Dot}
 use Rattle.text.specs.Tree.Exprs.{no-exprs, exprs}
 use Rattle.text.specs.Tree.ArraySpecifier.{no-dimensions, dimensions}
 use Rattle.text.specs.Tree.ArraySpecifierDimension.{Unsized, ExplicitlySized}
-use Rattle.text.specs.Text.{unary-symbol, binary-symbol, assignment-symbol}
+use Rattle.text.specs.Operator.{unary-symbol, binary-symbol, assignment-symbol}
 use Rattle.grammar.specs.Last.{last-expr, last-dimension}
 use Rattle.grammar.specs.Strength.{under}
 use Rattle.grammar.proofs.Settled.{Head, head-token, Operand, as-expr, called, constant, posted, postfix-symbol, NT, Node, D}

@@ -9,7 +9,7 @@ use Rattle.text.specs.Token.{Token}
 use Rattle.text.specs.Token.Token.{symbol}
 use Rattle.text.specs.Tree.{UnaryOp, BinaryOp, AssignmentOp, Expr}
 use Rattle.text.specs.Tree.Expr.{Unary, Binary, Assignment}
-use Rattle.text.specs.Text.{unary-symbol, binary-symbol, assignment-symbol, binary-op}
+use Rattle.text.specs.Operator.{unary-symbol, binary-symbol, assignment-symbol, binary-op}
 use Rattle.grammar.specs.Strength.{under}
 use Rattle.grammar.specs.Chapter9.{Nonterminal, Derives}
 use Rattle.grammar.specs.Chapter9.Nonterminal.{primary-expression, postfix-expression, unary-expression, multiplicative-expression, additive-expression, shift-expression, relational-expression, equality-expression, and-expression, exclusive-or-expression, inclusive-or-expression, logical-and-expression, logical-xor-expression, logical-or-expression, conditional-expression, assignment-expression, expression}

@@ -2,7 +2,7 @@
 use mathlib.Core.Path.{_≡_, refl}
 use Rattle.words.specs.Symbol.{Symbol}
 use Rattle.text.specs.Tree.{UnaryOp, BinaryOp, AssignmentOp}
-use Rattle.text.specs.Text.{unary-symbol, binary-symbol, assignment-symbol, binary-op}
+use Rattle.text.specs.Operator.{unary-symbol, binary-symbol, assignment-symbol, binary-op}
 use Rattle.grammar.proofs.Settled.{PostfixOp, postfix-symbol}
 
 -- what a symbol does where an operand is wanted

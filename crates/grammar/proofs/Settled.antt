@@ -20,7 +20,7 @@ use Rattle.text.specs.Tree.FunIdentifier.{OfExpr}
 use Rattle.text.specs.Tree.TypeSpecifierNonArray.{Keyword, TypeName}
 use Rattle.text.specs.Tree.ArraySpecifier.{no-dimensions, dimensions}
 use Rattle.text.specs.Tree.ArraySpecifierDimension.{no-dimension, Unsized, ExplicitlySized}
-use Rattle.text.specs.Text.{unary-symbol, binary-symbol, assignment-symbol}
+use Rattle.text.specs.Operator.{unary-symbol, binary-symbol, assignment-symbol}
 use Rattle.grammar.specs.Last.{last-expr, last-dimension}
 use Rattle.grammar.specs.Chapter9.{void}
 use Rattle.grammar.specs.Same.{type-callee}

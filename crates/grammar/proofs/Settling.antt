@@ -16,7 +16,7 @@ use Rattle.text.specs.Tree.Exprs.{no-exprs}
 use Rattle.text.specs.Tree.FunIdentifier.{OfExpr}
 use Rattle.text.specs.Tree.ArraySpecifier.{no-dimensions}
 use Rattle.text.specs.Tree.ArraySpecifierDimension.{Unsized, ExplicitlySized}
-use Rattle.text.specs.Text.{unary-symbol, binary-symbol, assignment-symbol, binary-op}
+use Rattle.text.specs.Operator.{unary-symbol, binary-symbol, assignment-symbol, binary-op}
 use Rattle.grammar.specs.Last.{last-expr, last-dimension}
 use Rattle.grammar.specs.Strength.{under}
 use Rattle.grammar.specs.Same.{Same, as-read, exprs-as-read, callee-as-read, type-as-read, array-as-read, dimension-as-read, type-callee, indexed-callee}

@@ -1,7 +1,7 @@
 -- 000's table of precedences (HasPrecedence) is the table of 4.60 §5.1. Assumes nothing.
 use mathlib.Core.Path.{_≡_, refl}
 use Rattle.text.specs.Tree.{BinaryOp}
-use Rattle.text.specs.Text.{binary-precedence, binary-op}
+use Rattle.text.specs.Operator.{binary-precedence, binary-op}
 use Rattle.grammar.specs.Strength.{under, strength}
 
 pub same-strength : (o : BinaryOp) → binary-precedence o ≡ strength o

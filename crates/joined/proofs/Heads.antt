@@ -9,7 +9,7 @@ use borrow.Author.Tests.{eqb-true, ne-eqb, le-ltb}
 use Rattle.records.specs.Record.{recordAt, recordCount}
 use Rattle.formed.proofs.Kind.{rec}
 use Rattle.text.specs.Tree.{Expr, FunIdentifier}
-use Rattle.text.specs.Text.{precedence}
+use Rattle.text.specs.Operator.{precedence}
 use Rattle.text.specs.Reading.{Read, Item, Reader, first, first-kind, items, from, itemOf, exprOf, expr, callee, type, give, _and_, unaryOp}
 use Rattle.joined.specs.declared.Head.{Head}
 use Rattle.precedence.specs.Precedence.{precedenceOf}

@@ -10,7 +10,7 @@ use Rattle.formed.specs.Formed.{Formed-expr}
 use Rattle.formed.proofs.Kind.{rec}
 use Rattle.formed.proofs.Span.{Span, _then_, at}
 use Rattle.text.specs.Tree.{BinaryOp, Expr}
-use Rattle.text.specs.Text.{precedence, binary-precedence, binary-op}
+use Rattle.text.specs.Operator.{precedence, binary-precedence, binary-op}
 use Rattle.text.specs.Reading.{binaryOp}
 use Rattle.text.specs.Joined.{begins, op-begins, joins}
 use Rattle.joined.specs.Stack.{bareSign, joinsAt, additive}

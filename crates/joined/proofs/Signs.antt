@@ -28,7 +28,8 @@ use Rattle.text.specs.Command.{Command}
 use Rattle.text.specs.Command.Command.{token}
 use Rattle.text.specs.Pen.{written, after, text, afterAll}
 use Rattle.text.specs.Tree.{UnaryOp, Expr, FunIdentifier, TypeSpecifier, TypeSpecifierNonArray}
-use Rattle.text.specs.Text.{precedence, postfix-precedence, binary-precedence, ternary-precedence, assignment-precedence, comma-precedence, unary-symbol, bare-if, show-int, bool-word, show-expr, show-function-identifier, show-type-specifier, show-type-specifier-non-array}
+use Rattle.text.specs.Operator.{precedence, postfix-precedence, binary-precedence, ternary-precedence, assignment-precedence, comma-precedence, unary-symbol}
+use Rattle.text.specs.Text.{bare-if, show-int, bool-word, show-expr, show-function-identifier, show-type-specifier, show-type-specifier-non-array}
 use Rattle.text.specs.Joined.{begins}
 use Rattle.text.proofs.Append.{text-append}
 use Rattle.formed.specs.Formed.{Name, Float, KeywordNumber, Formed-expr, Formed-callee, Formed-type, Formed-base}

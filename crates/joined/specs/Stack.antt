@@ -11,7 +11,7 @@ use Rattle.records.specs.declared.Record.{Record}
 use Rattle.records.specs.Record.{recordCount, recordAt}
 use Rattle.shapes.specs.Shape.{lastVariant}
 use Rattle.accept.specs.Check.{childrenOf, most-records}
-use Rattle.text.specs.Text.{postfix-precedence, binary-precedence, ternary-precedence, assignment-precedence, comma-precedence}
+use Rattle.text.specs.Operator.{postfix-precedence, binary-precedence, ternary-precedence, assignment-precedence, comma-precedence}
 use Rattle.text.specs.Reading.{binaryOp}
 use Rattle.precedence.specs.Precedence.{precedenceOf}
 use Rattle.joined.specs.declared.Head.{Head}

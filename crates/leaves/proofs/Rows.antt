@@ -19,7 +19,8 @@ use Rattle.text.specs.Token.{Token, spell}
 use Rattle.text.specs.Asked.Flag.{spaces-around-binary-ops}
 use Rattle.text.specs.Command.{write-binary-token, write-binary-op}
 use Rattle.text.specs.Command.Command.{space-if}
-use Rattle.text.specs.Text.{unary-symbol, binary-symbol, assignment-symbol, bool-word, binary-op}
+use Rattle.text.specs.Operator.{unary-symbol, binary-symbol, assignment-symbol, binary-op}
+use Rattle.text.specs.Text.{bool-word}
 use Rattle.text.specs.Reading.{unaryOp, binaryOp, assignmentOp, storageOf}
 use Rattle.pen.specs.declared.Pen.{Pen}
 use Rattle.pen.specs.Promise.{Ran}

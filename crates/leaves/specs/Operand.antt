@@ -4,7 +4,7 @@ use mathlib.Core.Bool.{_&&_, _||_, cond}
 use Prim.Native.Nat.{ℕ}
 use lib.Dec.{eqb}
 use Rattle.records.specs.declared.Record.{Record}
-use Rattle.text.specs.Text.{postfix-precedence, unary-precedence}
+use Rattle.text.specs.Operator.{postfix-precedence, unary-precedence}
 
 -- the operator's variant, the operand's record
 unfoldable pub mostUnder : (variant : ℕ) → Record → ℕ

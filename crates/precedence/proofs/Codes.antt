@@ -3,7 +3,7 @@ use mathlib.Core.Path.{_≡_, sym, ap, _∙_}
 use Prim.Native.Nat.{ℕ, zero, suc, _+_, _-_, _≤_}
 use native.Mathlib.Nat.{add-zero}
 use native.Mathlib.Omega.{arith}
-use Rattle.text.specs.Text.{binary-precedence, binary-op}
+use Rattle.text.specs.Operator.{binary-precedence, binary-op}
 use Rattle.text.specs.Reading.{binaryOp}
 
 -- k + n, told so that it computes where n is known

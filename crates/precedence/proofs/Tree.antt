@@ -6,7 +6,7 @@ use Prim.Native.Nat.{ℕ}
 use lib.Dec.{eqb}
 use Rattle.records.specs.declared.Record.{Record}
 use Rattle.text.specs.Tree.{Expr}
-use Rattle.text.specs.Text.{precedence}
+use Rattle.text.specs.Operator.{precedence}
 use Rattle.text.specs.Reading.{Item, Read, Reader, exprOf}
 use Rattle.text.proofs.ByKind.{of-kind}
 use Rattle.precedence.specs.Precedence.{precedenceOf}

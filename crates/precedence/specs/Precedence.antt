@@ -3,7 +3,7 @@
 use mathlib.Core.Bool.{cond}
 use Prim.Native.Nat.{ℕ}
 use lib.Dec.{eqb}
-use Rattle.text.specs.Text.{atomic-precedence, postfix-precedence, unary-precedence, binary-precedence, ternary-precedence, assignment-precedence, comma-precedence}
+use Rattle.text.specs.Operator.{atomic-precedence, postfix-precedence, unary-precedence, binary-precedence, ternary-precedence, assignment-precedence, comma-precedence}
 use Rattle.text.specs.Reading.{binaryOp}
 
 unfoldable pub precedenceOf : (kind variant : ℕ) → ℕ

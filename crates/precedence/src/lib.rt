@@ -1,7 +1,7 @@
 // 000 HasPrecedence: how strongly an expression binds, told by its record's kind and variant. The smaller the number, the stronger.
 ghost use mathlib.Core.Path.{_≡_};
 ghost use Prim.Native.Nat.{_≤_};
-ghost use Rattle.text.specs.Text.{binary-precedence};
+ghost use Rattle.text.specs.Operator.{binary-precedence};
 ghost use Rattle.text.specs.Reading.{binaryOp};
 ghost use Rattle.precedence.specs.Precedence.{precedenceOf};
 

@@ -12,7 +12,8 @@ use Rattle.records.specs.declared.Record.{Record}
 use Rattle.records.proofs.Laws.{split, same-answer}
 use Rattle.text.specs.Command.{Command}
 use Rattle.text.specs.Tree.{UnaryOp, BinaryOp, Expr}
-use Rattle.text.specs.Text.{precedence, binary-precedence, unary-precedence, a-symbol, bare-if, show-expr, unary-symbol, doubled, doubles, binary-op}
+use Rattle.text.specs.Operator.{precedence, binary-precedence, unary-precedence, unary-symbol, doubled, doubles, binary-op}
+use Rattle.text.specs.Text.{a-symbol, bare-if, show-expr}
 use Rattle.text.specs.Reading.{Item, Read, Reader, unaryOp, exprOf, expr}
 use Rattle.text.proofs.ByKind.{either}
 use Rattle.leaves.specs.Operand.{mostUnder}

@@ -20,7 +20,8 @@ use Rattle.text.specs.Token.{Token, spell}
 use Rattle.text.specs.Command.{Command, write-binary-op, write-binary-token, write-list-separator, write-struct-field-separator, enter-block, exit-block}
 use Rattle.text.specs.Command.Command.{flush-line}
 use Rattle.text.specs.Tree.{Expr, Exprs, FunIdentifier, TypeSpecifier, TypeSpecifierNonArray, TypeSpecifiers, ArraySpecifierDimension, StructFieldSpecifier, StructFieldSpecifiers, ArrayedIdentifier, ArrayedIdentifiers, Qualification, TypeQualifierSpec, LayoutQualifier, LayoutQualifierSpec}
-use Rattle.text.specs.Text.{precedence, binary-precedence, unary-precedence, doubles, unary-symbol, binary-symbol, assignment-symbol, a-token, a-word, a-symbol, a-space, bare-if, without-types, show-type-specifier-non-array, show-type-specifier, show-type-specifiers, show-struct-fields, show-struct-field, show-array-spec, show-dimension, show-arrayed-identifier, show-arrayed-identifiers, show-qualification, show-type-qualifier, show-type-qualifier-spec, show-layout-ids, show-layout-qualifier-spec, show-expr, show-exprs, show-function-identifier, show-identifier, optional}
+use Rattle.text.specs.Operator.{precedence, binary-precedence, unary-precedence, doubles, unary-symbol, binary-symbol, assignment-symbol}
+use Rattle.text.specs.Text.{a-token, a-word, a-symbol, a-space, bare-if, without-types, show-type-specifier-non-array, show-type-specifier, show-type-specifiers, show-struct-fields, show-struct-field, show-array-spec, show-dimension, show-arrayed-identifier, show-arrayed-identifiers, show-qualification, show-type-qualifier, show-type-qualifier-spec, show-layout-ids, show-layout-qualifier-spec, show-expr, show-exprs, show-function-identifier, show-identifier, optional}
 use Rattle.text.specs.Reading.{Item, Read, Reader, first, nothing, made, give, counted, _and_, several, from, itemOf, typeOf, dimensionOf, fieldOf, identifierOf, specOf, layoutIdOf, unaryOp, binaryOp, assignmentOp, storageOf, expr, type, base, array, dimension, field, identifier, qualifier, spec, layout-id, callee, array-if, qualification-if}
 use Rattle.text.proofs.At.{expr-at, first-out}
 use Rattle.pen.specs.declared.Pen.{Pen}

@@ -4,7 +4,8 @@ use lib.Dec.{leb, ltb}
 use Rattle.words.specs.Symbol.{Symbol}
 use Rattle.text.specs.Command.{Command, write-binary-op}
 use Rattle.text.specs.Tree.{Expr}
-use Rattle.text.specs.Text.{precedence, ternary-precedence, bare-if, show-expr}
+use Rattle.text.specs.Operator.{precedence, ternary-precedence}
+use Rattle.text.specs.Text.{bare-if, show-expr}
 use Rattle.text.specs.Reading.{Reader, give, _and_, expr}
 
 pub data Choice : Type 0 where

@@ -15,7 +15,7 @@ use Rattle.words.specs.Form.{same, oneOf}
 use Rattle.text.specs.Token.{Token, has}
 use Rattle.text.specs.Token.Token.{name, int, uint, float, double, word, symbol}
 use Rattle.text.specs.Tree.{UnaryOp, Expr}
-use Rattle.text.specs.Text.{unary-symbol, doubled}
+use Rattle.text.specs.Operator.{unary-symbol, doubled}
 use Rattle.lexis.specs.Division.{begins-with}
 use Rattle.lexis.proofs.Symbols.{space-behind}
 use Rattle.lexis.proofs.Laws.{symbol-lengthens, lengthens}

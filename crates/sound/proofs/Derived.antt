@@ -19,7 +19,8 @@ use Rattle.text.specs.Tree.TypeSpecifierNonArray.{no-base, Keyword, TypeName, S
 use Rattle.text.specs.Tree.ArraySpecifier.{no-dimensions, dimensions}
 use Rattle.text.specs.Tree.ArraySpecifierDimension.{no-dimension, Unsized, ExplicitlySized}
 use Rattle.text.specs.Visible.{tokensOf}
-use Rattle.text.specs.Text.{bare-if, precedence, doubles, a-symbol, show-expr, show-exprs, show-function-identifier, show-type-specifier, show-type-specifier-non-array, show-array-spec, show-dimension, show-int}
+use Rattle.text.specs.Operator.{precedence, doubles}
+use Rattle.text.specs.Text.{bare-if, a-symbol, show-expr, show-exprs, show-function-identifier, show-type-specifier, show-type-specifier-non-array, show-array-spec, show-dimension, show-int}
 use Rattle.grammar.specs.Last.{last-expr, last-dimension}
 use Rattle.grammar.specs.Strength.{under}
 use Rattle.grammar.specs.Chapter9.{Derives, Value}

@@ -31,7 +31,8 @@ use Rattle.text.specs.Tree.TypeSpecifier.{no-type, type}
 use Rattle.text.specs.Tree.TypeSpecifierNonArray.{no-base, Keyword, TypeName, Struct}
 use Rattle.text.specs.Tree.ArraySpecifier.{no-dimensions, dimensions}
 use Rattle.text.specs.Tree.ArraySpecifierDimension.{no-dimension, Unsized, ExplicitlySized}
-use Rattle.text.specs.Text.{postfix-precedence, unary-precedence, ternary-precedence, assignment-precedence, comma-precedence, binary-precedence, precedence, unary-symbol, binary-symbol, assignment-symbol, doubles, bool-word, a-token, bare-if, show-expr, show-exprs, show-function-identifier, show-type-specifier, show-type-specifier-non-array, show-array-spec, show-dimension}
+use Rattle.text.specs.Operator.{postfix-precedence, unary-precedence, ternary-precedence, assignment-precedence, comma-precedence, binary-precedence, precedence, unary-symbol, binary-symbol, assignment-symbol, doubles}
+use Rattle.text.specs.Text.{bool-word, a-token, bare-if, show-expr, show-exprs, show-function-identifier, show-type-specifier, show-type-specifier-non-array, show-array-spec, show-dimension}
 use Rattle.text.specs.Visible.{tokensOf}
 use Rattle.formed.specs.Formed.{Formed-expr, Formed-exprs, Formed-callee, Formed-type, Formed-base, Formed-dimensions, Formed-dimension}
 use Rattle.grammar.proofs.Ladder.{ladder}

@@ -11,7 +11,8 @@ use Rattle.text.specs.Tree.{Identifier, UnaryOp, BinaryOp, AssignmentOp, Expr, 
 use Rattle.text.specs.Tree.Expr.{no-expr, Variable, IntConst, UIntConst, BoolConst, FloatConst, DoubleConst, Unary, Binary, Ternary, Assignment, Bracket, FunCall, Dot, PostInc, PostDec, Comma}
 use Rattle.text.specs.Command.{Command, write-binary-op, write-list-separator}
 use Rattle.text.specs.Visible.{tokensOf}
-use Rattle.text.specs.Text.{precedence, unary-symbol, binary-symbol, assignment-symbol, a-symbol, show-identifier, parenthesized, in-square-brackets, bare-if}
+use Rattle.text.specs.Operator.{precedence, unary-symbol, binary-symbol, assignment-symbol}
+use Rattle.text.specs.Text.{a-symbol, show-identifier, parenthesized, in-square-brackets, bare-if}
 use Rattle.grammar.specs.Strength.{under}
 use Rattle.grammar.specs.Chapter9.{Nonterminal, Value, Derives}
 use Rattle.grammar.specs.Chapter9.Nonterminal.{primary-expression, postfix-expression, function-identifier, unary-expression, logical-or-expression, conditional-expression, assignment-expression, expression}

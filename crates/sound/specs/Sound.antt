@@ -13,7 +13,7 @@ use Rattle.text.specs.Tree.TypeSpecifier.{no-type, type}
 use Rattle.text.specs.Tree.TypeSpecifierNonArray.{no-base, Keyword, TypeName, Struct}
 use Rattle.text.specs.Tree.ArraySpecifier.{no-dimensions, dimensions}
 use Rattle.text.specs.Tree.ArraySpecifierDimension.{no-dimension, Unsized, ExplicitlySized}
-use Rattle.text.specs.Text.{precedence, unary-precedence, ternary-precedence, assignment-precedence}
+use Rattle.text.specs.Operator.{precedence, unary-precedence, ternary-precedence, assignment-precedence}
 
 -- "no negative IntConst"
 abbrev pub NotNegative : ℕ → Type 0

@@ -6,7 +6,8 @@ use mathlib.Core.Option.{none}
 use Prim.Native.Nat.{ℕ, zero, suc, _+_}
 use Rattle.words.specs.Word.{Word, qualifierWords, jumpWords, boolWords}
 use Rattle.words.specs.Symbol.{unaryOperators, binaryOperators, assignmentOperators}
-use Rattle.text.specs.Text.{unary-symbol, binary-symbol, assignment-symbol, bool-word, show-jump-statement}
+use Rattle.text.specs.Operator.{unary-symbol, binary-symbol, assignment-symbol}
+use Rattle.text.specs.Text.{bool-word, show-jump-statement}
 use Rattle.text.specs.Tree.{JumpStatement}
 use Rattle.text.specs.Command.{word, write-statement-terminator}
 use Rattle.text.specs.Reading.{unaryOp, binaryOp, assignmentOp, storageOf, precisionOf, interpolationOf}

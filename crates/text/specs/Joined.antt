@@ -11,7 +11,8 @@ use Rattle.words.specs.Symbol.{symbolText}
 use Rattle.settings.specs.Settings.{settingsOf, TIGHT}
 use Rattle.settings.specs.State.{fresh}
 use Rattle.text.specs.Pen.{text}
-use Rattle.text.specs.Text.{precedence, binary-precedence, binary-symbol, show-expr}
+use Rattle.text.specs.Operator.{precedence, binary-precedence, binary-symbol}
+use Rattle.text.specs.Text.{show-expr}
 use Rattle.records.specs.declared.Record.{Record}
 use Rattle.records.specs.Record.{recordCount, recordAt}
 use Rattle.text.specs.Reading.{Item, Reader, give, _and_, expr, from, binaryOp}

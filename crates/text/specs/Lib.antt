@@ -3,6 +3,7 @@ pub mod Tree
 pub mod Asked
 pub mod Command
 pub mod Pen
+pub mod Operator
 pub mod Text
 pub mod Reading
 pub mod Whole

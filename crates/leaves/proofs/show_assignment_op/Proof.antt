@@ -1,7 +1,7 @@
 -- `leaves::show_assignment_op` meets its contract: the row holds the operator. Assumes nothing.
 use mathlib.Core.Path.{_∙_, ap}
 use Rattle.word_table.specs.Table.{textAt}
-use Rattle.text.specs.Text.{assignment-symbol}
+use Rattle.text.specs.Operator.{assignment-symbol}
 use Rattle.text.specs.Reading.{assignmentOp}
 use Rattle.leaves.proofs.Rows.{by-operator, assignment-text}
 use borrow.Author.Needs.{needs}

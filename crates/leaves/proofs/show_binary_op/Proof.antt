@@ -1,7 +1,7 @@
 -- `leaves::show_binary_op` meets its contract: the row holds the operator. Assumes nothing.
 use mathlib.Core.Path.{_∙_, ap}
 use Rattle.word_table.specs.Table.{textAt}
-use Rattle.text.specs.Text.{binary-symbol}
+use Rattle.text.specs.Operator.{binary-symbol}
 use Rattle.text.specs.Reading.{binaryOp}
 use Rattle.leaves.proofs.Rows.{by-operator, binary-text}
 use borrow.Author.Needs.{needs}

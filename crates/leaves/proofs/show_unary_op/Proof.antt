@@ -2,7 +2,7 @@
 use mathlib.Core.Path.{_∙_, ap}
 use Rattle.word_table.specs.Table.{textAt}
 use Rattle.text.specs.Token.{Token}
-use Rattle.text.specs.Text.{unary-symbol}
+use Rattle.text.specs.Operator.{unary-symbol}
 use Rattle.text.specs.Reading.{unaryOp}
 use Rattle.pen.proofs.Chain.{by-token}
 use Rattle.leaves.proofs.Rows.{unary-text}

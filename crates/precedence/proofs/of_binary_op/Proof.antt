@@ -3,7 +3,7 @@ use mathlib.Core.Path.{refl}
 use Prim.Native.Nat.{ℕ}
 use native.Mathlib.Omega.{arith}
 use Rattle.records.proofs.Arms.{by-code, beyond}
-use Rattle.text.specs.Text.{binary-precedence, binary-op}
+use Rattle.text.specs.Operator.{binary-precedence, binary-op}
 use Rattle.text.specs.Reading.{binaryOp}
 use Rattle.precedence.proofs.Codes.{last-binary}
 use Rattle.precedence.proofs.of_binary_op.Statement.{statement}
