@@ -16,8 +16,9 @@
  *   - With spaces around operators (settings byte 12, as in GLSL_OPEN) the text of a sound expression is read by GLSL 4.60's grammar as
  *     that expression and as no other. That is proved too. Sound leaves out a few shapes that are misread under any settings, among
  *     them minus over --a, which is printed as ---a, minus over a negative IntConst, --1, and a field of an IntConst, 1.lf.
- *   - Without these spaces (GLSL_TIGHT) signs can meet: n - --k is printed as n---k, which is read as n-- - k. glsl_joined tells of that
- *     beforehand. That texts without these spaces are read as they were meant otherwise is not proved.
+ *   - Without these spaces (GLSL_TIGHT) signs can meet: n - --k is printed as n---k, which is read as n-- - k. glsl_joined tells
+ *     beforehand whether signs meet somewhere, or a dot and a whole number. That texts without these spaces are read as they were
+ *     meant otherwise is not proved.
  *   - Of units nothing is promised but their text. No braces are added: an if without an else that is the first statement of an if with
  *     one takes that else when it is read, under any settings (docs/DIFFERENCES.md, "Dangling else").
  *
@@ -48,9 +49,13 @@ int64_t glsl_print_expr(const uint8_t *settings, size_t settings_length,
                         const uint8_t *names, size_t names_length,
                         uint8_t *room, size_t room_length);
 
-/* Asks whether an expression is joined: whether under GLSL_TIGHT some binary + or - has a right operand without brackets whose text
- * begins with the same sign, as in `a--b` for a - -b, so that the two signs are read as one. It tells exactly that, and today neither
- * minus over --a (`---a`) or over a negative IntConst (`--1`) nor a field of an IntConst (`1.lf`). The answer is 1 or 0, or a refusal with a number of 2 to 12. */
+/* Asks whether an expression is joined. It is so exactly if, under GLSL_TIGHT, somewhere in it
+ *   - a binary + or - has a right operand without brackets whose text begins with the same sign: `a--b` for a - -b, `n---k` for n - --k;
+ *   - a unary + or - has an operand without brackets whose text begins with the same sign: `---a` for minus over --a, `--1` for minus
+ *     over the IntConst -1;
+ *   - a Dot stands directly over an IntConst: `1.lf`.
+ * The two signs, or number and dot, are then read as one token. Spaces around operators (settings byte 12) keep the first sort apart;
+ * the other two are printed so under all settings (they are not sound). The answer is 1 or 0, or a refusal with a number of 2 to 12. */
 int64_t glsl_joined(const uint8_t *records, size_t records_length, const uint8_t *names, size_t names_length);
 
 /* Why there is no answer. Behind each: the place that goes with it. A record's place is its index, from 0. */
@@ -94,8 +99,9 @@ static inline size_t glsl_refusal_place(int64_t answer)
 enum { GLSL_SETTINGS_LENGTH = 21 };
 
 /* The least space: none around operators, no line breaks. The text can be read as ANOTHER expression than the tree's, as n---k for
- * n - --k: ask glsl_joined first, and where it answers 1 print with spaces around operators (settings byte 12). See above, "What a
- * text is read as". */
+ * n - --k: ask glsl_joined first, and where it answers 1 print with spaces around operators (settings byte 12). They keep a binary
+ * operator and its operand apart. No settings keep the other two sorts apart (see glsl_joined): such a tree is not sound, and only
+ * another tree helps. See above, "What a text is read as". */
 static const uint8_t GLSL_TIGHT[GLSL_SETTINGS_LENGTH] = {0, 0, 0, 0, 0, 0, 0, 0, 0, 0, 0, 0, 0, 0, 0, 0, 0, 0, 0, 0, 0};
 
 /* For people: spaces around operators, a line for each statement, indents of four spaces. Sound expressions are read as they were meant. */

@@ -7,7 +7,7 @@ import sys
 # (crate, module): the definitions that a worked text goes through
 MODULES = [
     ("words", "Word"), ("words", "Symbol"), ("words", "Keyword"), ("words", "Form"), ("decimal", "Decimal"), ("records", "Record"), ("settings", "Settings"),
-    ("text", "Token"), ("text", "Asked"), ("text", "Pen"), ("text", "Operator"), ("text", "Text"), ("text", "Reading"), ("text", "Visible"), ("text", "Whole"),
+    ("text", "Token"), ("text", "Asked"), ("text", "Pen"), ("text", "Operator"), ("text", "Joins"), ("text", "Text"), ("text", "Reading"), ("text", "Visible"), ("text", "Whole"),
     ("text", "Joined"),
 ]
 TARGET = "crates/text/proofs/Computing.antt"

@@ -1,41 +1,81 @@
-//! The joined question (01, "Calls"), as a reference: yes exactly when, in TIGHT, some binary + or - has a bare right
-//! operand whose text begins with the same sign.
+//! The joined question (01, "Calls", as 02's request #103 mends it), as a reference: yes exactly when, in TIGHT, a binary or
+//! a unary plus or minus has a bare operand (for binary, the right one) whose text begins with the same sign, or a Dot
+//! stands directly over an IntConst.
 //!
-//! "Some" looks everywhere in the expression, into the types of callees too. Both "bare" and "begins" are read off the
-//! TIGHT texts of the Rust module; no binding strength is known here.
+//! Any place of the expression counts, in the types of callees too. Both "bare" and "begins" are read off the TIGHT texts of
+//! the Rust module; no binding strength is known here.
 
 use crate::{print, settings};
 use glsl_lang::ast::{
     self, ArraySpecifierDimensionData, BinaryOpData, ExprData, FunIdentifierData, LayoutQualifierSpecData,
-    StorageQualifierData, TypeQualifierSpecData, TypeSpecifierNonArrayData,
+    StorageQualifierData, TypeQualifierSpecData, TypeSpecifierNonArrayData, UnaryOpData,
 };
+
+/// What joins: the three sorts that the rule names.
+#[derive(Clone, Copy, Debug, PartialEq, Eq, PartialOrd, Ord)]
+pub enum Joint {
+    /// A binary plus or minus and its right operand: `a--b`.
+    Binary,
+    /// A unary plus or minus and its operand: `---a`, `--1`.
+    Unary,
+    /// A Dot and an IntConst: `1.x`.
+    Dot,
+}
+
+/// Every sort.
+pub const JOINTS: [Joint; 3] = [Joint::Binary, Joint::Unary, Joint::Dot];
 
 /// Whether an expression is joined.
 pub fn is_joined(expr: &ast::Expr) -> bool {
+    some_part(expr, &|part| joint_at(part).is_some())
+}
+
+/// Whether some place of an expression is joined in this way.
+pub fn has(expr: &ast::Expr, joint: Joint) -> bool {
+    some_part(expr, &|part| joint_at(part) == Some(joint))
+}
+
+/// Whether an expression is joined in this way and in no other, so that its answer hangs on this part of the rule.
+pub fn is_joined_only_by(expr: &ast::Expr, joint: Joint) -> bool {
+    JOINTS.into_iter().all(|other| has(expr, other) == (other == joint))
+}
+
+/// How an expression's own record is joined to its operand. Parts below it do not count.
+fn joint_at(expr: &ast::Expr) -> Option<Joint> {
     match &**expr {
-        ExprData::Variable(_)
-        | ExprData::IntConst(_)
-        | ExprData::UIntConst(_)
-        | ExprData::BoolConst(_)
-        | ExprData::FloatConst(_)
-        | ExprData::DoubleConst(_) => false,
-        ExprData::Binary(op, left, right) => joins(op, right) || is_joined(left) || is_joined(right),
-        ExprData::Unary(_, e) | ExprData::Dot(e, _) | ExprData::PostInc(e) | ExprData::PostDec(e) => is_joined(e),
-        ExprData::Assignment(a, _, b) | ExprData::Bracket(a, b) | ExprData::Comma(a, b) => is_joined(a) || is_joined(b),
-        ExprData::Ternary(a, b, c) => is_joined(a) || is_joined(b) || is_joined(c),
-        ExprData::FunCall(callee, arguments) => in_callee(callee) || arguments.iter().any(is_joined),
+        ExprData::Binary(op, _, right) => {
+            let sign = binary_sign(op)?;
+            meets(sign, right, &behind_a_name(op, right), "x").then_some(Joint::Binary)
+        }
+        ExprData::Unary(op, operand) => meets(unary_sign(op)?, operand, expr, "").then_some(Joint::Unary),
+        ExprData::Dot(operand, _) => matches!(&***operand, ExprData::IntConst(_)).then_some(Joint::Dot),
+        _ => None,
     }
 }
 
-/// Whether the operator is + or - and its right operand stands bare and begins with the same sign.
-fn joins(op: &ast::BinaryOp, right: &ast::Expr) -> bool {
-    let sign = match **op {
-        BinaryOpData::Add => '+',
-        BinaryOpData::Sub => '-',
-        _ => return false,
-    };
-    let text = tight_text(right);
-    text.starts_with(sign) && tight_text(&behind_a_name(op, right)) == format!("x{sign}{text}")
+/// The sign of a binary plus or minus.
+fn binary_sign(op: &ast::BinaryOp) -> Option<char> {
+    match **op {
+        BinaryOpData::Add => Some('+'),
+        BinaryOpData::Sub => Some('-'),
+        _ => None,
+    }
+}
+
+/// The sign of a unary plus or minus. `++` and `--` are other operators: `--` over `-a` is `---a`, which splits as `--`, `-`,
+/// `a`, and so joins nothing.
+fn unary_sign(op: &ast::UnaryOp) -> Option<char> {
+    match **op {
+        UnaryOpData::Add => Some('+'),
+        UnaryOpData::Minus => Some('-'),
+        UnaryOpData::Inc | UnaryOpData::Dec | UnaryOpData::Not | UnaryOpData::Complement => None,
+    }
+}
+
+/// Whether an operand begins with the sign and stands bare behind it in `whole`, whose text has `front` before the sign.
+fn meets(sign: char, operand: &ast::Expr, whole: &ast::Expr, front: &str) -> bool {
+    let text = tight_text(operand);
+    text.starts_with(sign) && tight_text(whole) == format!("{front}{sign}{text}")
 }
 
 /// `x op right`: its text shows whether the right operand is bare, whatever stood on the left.
@@ -49,35 +89,59 @@ fn tight_text(expr: &ast::Expr) -> String {
     print::expr(expr, &settings::tight())
 }
 
-fn in_callee(callee: &ast::FunIdentifier) -> bool {
+/// What is asked of a part.
+type Asked<'a> = &'a dyn Fn(&ast::Expr) -> bool;
+
+/// Whether it holds for the expression or for an expression anywhere in it.
+fn some_part(expr: &ast::Expr, asked: Asked<'_>) -> bool {
+    let below = |part: &ast::Expr| some_part(part, asked);
+    asked(expr)
+        || match &**expr {
+            ExprData::Variable(_)
+            | ExprData::IntConst(_)
+            | ExprData::UIntConst(_)
+            | ExprData::BoolConst(_)
+            | ExprData::FloatConst(_)
+            | ExprData::DoubleConst(_) => false,
+            ExprData::Unary(_, e) | ExprData::Dot(e, _) | ExprData::PostInc(e) | ExprData::PostDec(e) => below(e),
+            ExprData::Binary(_, a, b)
+            | ExprData::Assignment(a, _, b)
+            | ExprData::Bracket(a, b)
+            | ExprData::Comma(a, b) => below(a) || below(b),
+            ExprData::Ternary(a, b, c) => below(a) || below(b) || below(c),
+            ExprData::FunCall(callee, arguments) => in_callee(callee, asked) || arguments.iter().any(below),
+        }
+}
+
+fn in_callee(callee: &ast::FunIdentifier, asked: Asked<'_>) -> bool {
     match &**callee {
-        FunIdentifierData::TypeSpecifier(ty) => in_type(ty),
-        FunIdentifierData::Expr(e) => is_joined(e),
+        FunIdentifierData::TypeSpecifier(ty) => in_type(ty, asked),
+        FunIdentifierData::Expr(e) => some_part(e, asked),
     }
 }
 
-fn in_type(ty: &ast::TypeSpecifier) -> bool {
+fn in_type(ty: &ast::TypeSpecifier, asked: Asked<'_>) -> bool {
     let in_struct = match &*ty.ty {
-        TypeSpecifierNonArrayData::Struct(s) => s.fields.iter().any(in_field),
+        TypeSpecifierNonArrayData::Struct(s) => s.fields.iter().any(|field| in_field(field, asked)),
         _ => false,
     };
-    in_struct || in_array(&ty.array_specifier)
+    in_struct || in_array(&ty.array_specifier, asked)
 }
 
-fn in_field(field: &ast::StructFieldSpecifier) -> bool {
-    field.qualifier.iter().flat_map(|q| &q.qualifiers).any(in_qualifier)
-        || in_type(&field.ty)
-        || field.identifiers.iter().any(|identifier| in_array(&identifier.array_spec))
+fn in_field(field: &ast::StructFieldSpecifier, asked: Asked<'_>) -> bool {
+    field.qualifier.iter().flat_map(|q| &q.qualifiers).any(|spec| in_qualifier(spec, asked))
+        || in_type(&field.ty, asked)
+        || field.identifiers.iter().any(|identifier| in_array(&identifier.array_spec, asked))
 }
 
-fn in_qualifier(spec: &ast::TypeQualifierSpec) -> bool {
+fn in_qualifier(spec: &ast::TypeQualifierSpec, asked: Asked<'_>) -> bool {
     match &**spec {
         TypeQualifierSpecData::Storage(storage) => match &**storage {
-            StorageQualifierData::Subroutine(types) => types.iter().any(in_type),
+            StorageQualifierData::Subroutine(types) => types.iter().any(|ty| in_type(ty, asked)),
             _ => false,
         },
         TypeQualifierSpecData::Layout(layout) => layout.ids.iter().any(|id| match &**id {
-            LayoutQualifierSpecData::Identifier(_, value) => value.iter().any(|e| is_joined(e)),
+            LayoutQualifierSpecData::Identifier(_, value) => value.iter().any(|e| some_part(e, asked)),
             LayoutQualifierSpecData::Shared => false,
         }),
         TypeQualifierSpecData::Precision(_)
@@ -87,89 +151,280 @@ fn in_qualifier(spec: &ast::TypeQualifierSpec) -> bool {
     }
 }
 
-fn in_array(array: &Option<ast::ArraySpecifier>) -> bool {
+fn in_array(array: &Option<ast::ArraySpecifier>, asked: Asked<'_>) -> bool {
     array.iter().flat_map(|a| &a.dimensions).any(|dimension| match &**dimension {
         ArraySpecifierDimensionData::Unsized => false,
-        ArraySpecifierDimensionData::ExplicitlySized(e) => is_joined(e),
+        ArraySpecifierDimensionData::ExplicitlySized(e) => some_part(e, asked),
     })
 }
 
 #[cfg(test)]
 mod tests {
     use super::*;
+    use crate::tables;
     use glsl_lang::ast::{
-        ArraySpecifierData, FunIdentifierData, StructFieldSpecifierData, StructSpecifierData, TypeSpecifierData,
-        UnaryOpData,
+        ArraySpecifierData, AssignmentOpData, LayoutQualifierData, StructFieldSpecifierData, StructSpecifierData,
+        TypeQualifierData, TypeSpecifierData,
     };
 
     fn name() -> ast::Expr {
         ExprData::variable("a").into()
     }
 
+    fn int(value: i32) -> ast::Expr {
+        ExprData::IntConst(value).into()
+    }
+
     fn unary(op: UnaryOpData, e: ast::Expr) -> ast::Expr {
         ExprData::Unary(op.into(), Box::new(e)).into()
+    }
+
+    fn minus(e: ast::Expr) -> ast::Expr {
+        unary(UnaryOpData::Minus, e)
+    }
+
+    fn plus(e: ast::Expr) -> ast::Expr {
+        unary(UnaryOpData::Add, e)
     }
 
     fn binary(op: BinaryOpData, left: ast::Expr, right: ast::Expr) -> ast::Expr {
         ExprData::Binary(op.into(), Box::new(left), Box::new(right)).into()
     }
 
-    fn call(callee: FunIdentifierData) -> ast::Expr {
-        ExprData::FunCall(callee.into(), Vec::new()).into()
+    fn less(right: ast::Expr) -> ast::Expr {
+        binary(BinaryOpData::Sub, name(), right)
     }
 
-    fn negative() -> ast::Expr {
-        unary(UnaryOpData::Minus, name())
+    fn more(right: ast::Expr) -> ast::Expr {
+        binary(BinaryOpData::Add, name(), right)
     }
 
-    /// `a - -a`
-    fn joined() -> ast::Expr {
-        binary(BinaryOpData::Sub, name(), negative())
+    fn dot(e: ast::Expr) -> ast::Expr {
+        ExprData::Dot(Box::new(e), ast::IdentifierData("x".into()).into()).into()
+    }
+
+    fn call(callee: ast::Expr) -> ast::Expr {
+        ExprData::FunCall(FunIdentifierData::Expr(Box::new(callee)).into(), Vec::new()).into()
+    }
+
+    fn call_of(ty: TypeSpecifierData) -> ast::Expr {
+        ExprData::FunCall(FunIdentifierData::TypeSpecifier(Box::new(ty.into())).into(), Vec::new()).into()
+    }
+
+    /// Postfixes and calls that begin with the text of this expression: they stand bare behind every operator. A constant is
+    /// bare in all of them, other expressions as callees alone.
+    fn postfixes(first: &ast::Expr) -> Vec<ast::Expr> {
+        let called = || Box::new(call(first.clone()));
+        let bracket = ExprData::Bracket(called(), Box::new(name()));
+        let posts = [ExprData::PostInc(Box::new(first.clone())), ExprData::PostDec(Box::new(first.clone()))];
+        let posts = posts.into_iter().filter(|_| matches!(&**first, ExprData::IntConst(_)));
+        [*called(), dot(*called()), bracket.into()].into_iter().chain(posts.map(Into::into)).collect()
+    }
+
+    /// An expression is joined in these ways alone.
+    fn says(expr: &ast::Expr, joints: &[Joint]) {
+        let text = tight_text(expr);
+        assert_eq!(is_joined(expr), !joints.is_empty(), "{text}");
+        assert_eq!(JOINTS.into_iter().filter(|&joint| has(expr, joint)).collect::<Vec<_>>(), joints, "{text}");
     }
 
     #[test]
-    fn same_sign_on_the_right_joins() {
-        assert!(is_joined(&joined()));
-        assert!(is_joined(&binary(BinaryOpData::Add, name(), unary(UnaryOpData::Inc, name()))));
-        assert!(is_joined(&binary(BinaryOpData::Sub, name(), ExprData::IntConst(-1).into())));
-        // The sign is that of the operand's first operand.
-        assert!(is_joined(&binary(BinaryOpData::Sub, name(), binary(BinaryOpData::Mult, negative(), name()))));
-        // A callee is bare at any strength.
-        assert!(is_joined(&binary(BinaryOpData::Sub, name(), call(FunIdentifierData::Expr(Box::new(negative()))))));
-    }
-
-    #[test]
-    fn others_do_not_join() {
-        assert!(!is_joined(&name()));
-        assert!(!is_joined(&binary(BinaryOpData::Add, name(), negative())));
-        assert!(!is_joined(&binary(BinaryOpData::Mult, name(), negative())));
-        assert!(!is_joined(&binary(BinaryOpData::Sub, negative(), name())));
-        // Of equal strength, so bracketed: `a-(-a-a)`.
-        assert!(!is_joined(&binary(BinaryOpData::Sub, name(), binary(BinaryOpData::Sub, negative(), name()))));
-    }
-
-    #[test]
-    fn every_part_is_looked_at() {
-        let boxed = || Box::new(joined());
-        let comma = ExprData::Comma(Box::new(name()), boxed());
-        let ternary = ExprData::Ternary(Box::new(name()), Box::new(name()), boxed());
-        let argument = ExprData::FunCall(FunIdentifierData::ident("f").into(), vec![name(), joined()]);
-        for expr in [comma, ternary, argument, ExprData::PostInc(boxed()), ExprData::Bracket(Box::new(name()), boxed())]
-        {
-            assert!(is_joined(&expr.into()));
+    fn binary_joins_the_same_sign_on_the_right() {
+        for right in [minus(name()), unary(UnaryOpData::Dec, name()), int(-1), int(i32::MIN)] {
+            says(&less(right.clone()), &[Joint::Binary]);
+            says(&more(right), &[]);
+        }
+        for right in [plus(name()), unary(UnaryOpData::Inc, name())] {
+            says(&more(right.clone()), &[Joint::Binary]);
+            says(&less(right), &[]);
+        }
+        // The sign is that of the operand's first operand; a callee is bare at any strength.
+        says(&less(binary(BinaryOpData::Mult, minus(name()), name())), &[Joint::Binary]);
+        for right in postfixes(&minus(name())).into_iter().chain(postfixes(&int(-1))) {
+            says(&less(right), &[Joint::Binary]);
         }
     }
 
     #[test]
-    fn types_of_callees_are_looked_at() {
-        let sized = ArraySpecifierDimensionData::ExplicitlySized(Box::new(joined()));
+    fn binary_joins_nothing_else() {
+        says(&name(), &[]);
+        says(&more(minus(name())), &[]);
+        says(&binary(BinaryOpData::Mult, name(), minus(name())), &[]);
+        says(&binary(BinaryOpData::Sub, minus(name()), name()), &[]);
+        says(&binary(BinaryOpData::Sub, ExprData::PostDec(Box::new(name())).into(), name()), &[]);
+        // Of equal strength, or weaker, so bracketed: `a-(-a-a)`.
+        says(&less(binary(BinaryOpData::Sub, minus(name()), name())), &[]);
+        says(&less(binary(BinaryOpData::Lt, minus(name()), name())), &[]);
+    }
+
+    #[test]
+    fn unary_joins_the_same_sign() {
+        for operand in [unary(UnaryOpData::Dec, name()), int(-1), int(i32::MIN)] {
+            says(&minus(operand.clone()), &[Joint::Unary]);
+            says(&plus(operand), &[]);
+        }
+        says(&plus(unary(UnaryOpData::Inc, name())), &[Joint::Unary]);
+        says(&minus(unary(UnaryOpData::Inc, name())), &[]);
+        // Through callees of any strength and first operands: `--a()`, `--a().x`, `--1++`.
+        for first in [minus(name()), binary(BinaryOpData::Or, minus(name()), name()), int(-1)] {
+            for operand in postfixes(&first) {
+                says(&minus(operand.clone()), &[Joint::Unary]);
+                says(&plus(operand), &[]);
+            }
+        }
+    }
+
+    #[test]
+    fn unary_joins_through_callees_of_any_strength() {
+        let (boxed, first) = (|| Box::new(name()), || Box::new(minus(name())));
+        let callees = [
+            ExprData::Ternary(first(), boxed(), boxed()),
+            ExprData::Assignment(first(), AssignmentOpData::Equal.into(), boxed()),
+            ExprData::Comma(first(), boxed()),
+        ];
+        for callee in callees {
+            says(&minus(call(callee.clone().into())), &[Joint::Unary]);
+            says(&less(call(callee.clone().into())), &[Joint::Binary]);
+            // Outside a callee they are bracketed.
+            says(&minus(callee.into()), &[]);
+        }
+    }
+
+    /// A minus or plus over itself is bracketed; with a positive constant or a name nothing meets.
+    #[test]
+    fn unary_joins_nothing_else() {
+        says(&minus(minus(name())), &[]);
+        says(&plus(plus(name())), &[]);
+        says(&minus(plus(name())), &[]);
+        says(&plus(minus(plus(name()))), &[]);
+        let constants = [
+            int(0),
+            int(1),
+            ExprData::UIntConst(u32::MAX).into(),
+            ExprData::BoolConst(true).into(),
+            ExprData::FloatConst(1.0).into(),
+            ExprData::DoubleConst(1.0).into(),
+        ];
+        for operand in constants.into_iter().chain([name(), ExprData::PostDec(Box::new(name())).into()]) {
+            says(&minus(operand.clone()), &[]);
+            says(&plus(operand), &[]);
+        }
+        // Weaker than a unary operator, so bracketed: `-(-a-a)`.
+        says(&minus(binary(BinaryOpData::Sub, minus(name()), name())), &[]);
+    }
+
+    /// Of the unary operators only plus and minus join: `--` over `-a` is `---a`, and joins nothing.
+    #[test]
+    fn other_unary_operators_join_nothing() {
+        for op in tables::UNARY.iter().filter(|op| ![UnaryOpData::Add, UnaryOpData::Minus].contains(op)) {
+            for operand in tables::UNARY.iter().map(|inner| unary(inner.clone(), name())).chain([int(-1)]) {
+                says(&unary(op.clone(), operand), &[]);
+            }
+        }
+    }
+
+    #[test]
+    fn dot_joins_an_int_alone() {
+        for value in [0, 1, -1, i32::MAX, i32::MIN] {
+            says(&dot(int(value)), &[Joint::Dot]);
+        }
+        let others = [
+            ExprData::UIntConst(1),
+            ExprData::BoolConst(true),
+            ExprData::FloatConst(1.0),
+            ExprData::FloatConst(1.5),
+            ExprData::DoubleConst(1.0),
+            ExprData::PostInc(Box::new(int(1))),
+            ExprData::Bracket(Box::new(name()), Box::new(int(1))),
+        ];
+        for operand in others.map(Into::into).into_iter().chain([name(), dot(name()), minus(int(1)), call(int(1))]) {
+            says(&dot(operand), &[]);
+        }
+    }
+
+    #[test]
+    fn sorts_are_told_apart() {
+        says(&less(minus(unary(UnaryOpData::Dec, dot(int(-1))))), &JOINTS);
+        assert!(is_joined_only_by(&dot(int(1)), Joint::Dot));
+        assert!(!is_joined_only_by(&minus(dot(int(-1))), Joint::Dot));
+        assert!(!is_joined_only_by(&name(), Joint::Dot));
+    }
+
+    /// An expression for each sort.
+    fn joined() -> [ast::Expr; 3] {
+        [less(minus(name())), minus(int(-1)), dot(int(1))]
+    }
+
+    #[test]
+    fn every_part_is_looked_at() {
+        for (part, joint) in joined().into_iter().zip(JOINTS) {
+            let (boxed, other) = (|| Box::new(part.clone()), || Box::new(name()));
+            let argument = ExprData::FunCall(FunIdentifierData::ident("f").into(), vec![name(), part.clone()]);
+            let assignment = |target, value| ExprData::Assignment(target, AssignmentOpData::Add.into(), value);
+            let wholes = [
+                argument,
+                assignment(boxed(), other()),
+                assignment(other(), boxed()),
+                ExprData::Binary(BinaryOpData::Or.into(), boxed(), other()),
+                ExprData::Bracket(boxed(), other()),
+                ExprData::Bracket(other(), boxed()),
+                ExprData::Comma(boxed(), other()),
+                ExprData::Comma(other(), boxed()),
+                ExprData::PostDec(boxed()),
+                ExprData::PostInc(boxed()),
+                ExprData::Ternary(boxed(), other(), other()),
+                ExprData::Ternary(other(), boxed(), other()),
+                ExprData::Ternary(other(), other(), boxed()),
+                ExprData::Unary(UnaryOpData::Not.into(), boxed()),
+            ];
+            for whole in wholes.map(Into::into).into_iter().chain([call(part.clone()), dot(call(part))]) {
+                says(&whole, &[joint]);
+            }
+        }
+    }
+
+    /// `int[e]`.
+    fn int_of(e: ast::Expr) -> TypeSpecifierData {
+        let sized = ArraySpecifierDimensionData::ExplicitlySized(Box::new(e));
         let array_specifier = Some(ArraySpecifierData { dimensions: vec![sized.into()] }.into());
-        let ty = TypeSpecifierData { ty: TypeSpecifierNonArrayData::Int.into(), array_specifier };
-        assert!(is_joined(&call(FunIdentifierData::TypeSpecifier(Box::new(ty.clone().into())))));
-        let identifiers = vec![ast::ArrayedIdentifierData::from("a").into()];
-        let field = StructFieldSpecifierData { qualifier: None, ty: ty.into(), identifiers };
+        TypeSpecifierData { ty: TypeSpecifierNonArrayData::Int.into(), array_specifier }
+    }
+
+    /// A struct whose one field has this qualifier, type and array behind its name.
+    fn struct_of(
+        qualifier: Option<TypeQualifierSpecData>,
+        ty: TypeSpecifierData,
+        array_spec: Option<ast::ArraySpecifier>,
+    ) -> TypeSpecifierData {
+        let qualifier = qualifier.map(|spec| TypeQualifierData { qualifiers: vec![spec.into()] }.into());
+        let ident = ast::IdentifierData("a".into()).into();
+        let identifiers = vec![ast::ArrayedIdentifierData { ident, array_spec }.into()];
+        let field = StructFieldSpecifierData { qualifier, ty: ty.into(), identifiers };
         let whole = StructSpecifierData { name: None, fields: vec![field.into()] };
-        let outer = TypeSpecifierData::from(TypeSpecifierNonArrayData::Struct(whole.into()));
-        assert!(is_joined(&call(FunIdentifierData::TypeSpecifier(Box::new(outer.into())))));
+        TypeSpecifierNonArrayData::Struct(whole.into()).into()
+    }
+
+    #[test]
+    fn types_of_callees_are_looked_at() {
+        for (part, joint) in joined().into_iter().zip(JOINTS) {
+            let plain = || TypeSpecifierData::from(TypeSpecifierNonArrayData::Int);
+            let layout = LayoutQualifierSpecData::Identifier(
+                ast::IdentifierData("a".into()).into(),
+                Some(Box::new(part.clone())),
+            );
+            let layout = TypeQualifierSpecData::Layout(LayoutQualifierData { ids: vec![layout.into()] }.into());
+            let subroutine = StorageQualifierData::Subroutine(vec![int_of(part.clone()).into()]);
+            let subroutine = TypeQualifierSpecData::Storage(subroutine.into());
+            let wholes = [
+                int_of(part.clone()),
+                struct_of(None, int_of(part.clone()), None),
+                struct_of(None, plain(), int_of(part).array_specifier),
+                struct_of(Some(layout), plain(), None),
+                struct_of(Some(subroutine), plain(), None),
+            ];
+            for whole in wholes {
+                says(&call_of(whole), &[joint]);
+            }
+        }
     }
 }

@@ -2,10 +2,12 @@
 //!
 //! A question goes through [`read`] (records to the tree of 001, refusals 1 to 12) and then to the Rust printer;
 //! [`joined`] is the reference for the joined question, [`mod@name`] for a record's name. [`grow`] makes random trees, [`mod@line`] is the format on disk.
-//! All of it is written from the words of document 01, not from our own definitions, so that it can contradict them.
+//! [`exact`] holds the joined question against [`mod@tokens`] and [`mod@split`], on all small expressions.
+//! All of it is written from the words of documents 01 and 02, not from our own definitions, so that it can contradict them.
 
 pub mod answer;
 pub mod cases;
+pub mod exact;
 pub mod grow;
 pub mod joined;
 pub mod line;
@@ -17,6 +19,8 @@ pub mod record;
 pub mod refusal;
 pub mod sample;
 pub mod settings;
+pub mod split;
 pub mod tables;
+pub mod tokens;
 pub mod tree;
 pub mod words;

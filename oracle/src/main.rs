@@ -1,6 +1,7 @@
-//! The program `oracle`: answers, checks and makes lines of questions (see `oracle::line` for their format).
+//! The program `oracle`: answers, checks and makes lines of questions (see `oracle::line` for their format), and tries whether
+//! the joined question is exact.
 
-use oracle::{answer, grow, line, sample};
+use oracle::{answer, exact, grow, line, sample};
 use std::fmt::Display;
 use std::fs::File;
 use std::io::{self, BufRead, BufReader, BufWriter, Write};
@@ -10,6 +11,8 @@ const USAGE: &str = "\
 usage: oracle answer               reads lines `Unit|Expr SETTINGS RECORDS NAMES`, writes them with TEXT and JOINED
        oracle check FILE           compares the lines of FILE, which have all six fields, with the oracle's answers
        oracle vectors SEED COUNT   writes COUNT random questions with their answers
+       oracle exact RECORDS        tries whether the joined answer is yes exactly where splitting the text by longest
+                                   match does not give its tokens, on all expressions of up to RECORDS records
        oracle sample Unit|Expr|Name SEED
        oracle sample State
                                    writes the sample that crates/replay replays (see `oracle::sample` for its format)
@@ -26,6 +29,7 @@ fn main() -> ExitCode {
         ["answer"] => answer_lines(io::stdin().lock()),
         ["check", file] => check_file(file),
         ["vectors", seed, count] => vectors(seed, count),
+        ["exact", records] => exact_up_to(records),
         ["sample", "State"] => write_bytes(&sample::states::file()),
         ["sample", asked, seed] => write_sample(asked, seed),
         _ => Err(USAGE.to_owned()),
@@ -87,6 +91,23 @@ fn vectors(seed: &str, count: &str) -> Verdict {
     }
     output.flush().map_err(message)?;
     Ok(true)
+}
+
+/// `exact`: a line for each size, and the first texts that speak against the claim.
+fn exact_up_to(records: &str) -> Verdict {
+    let mut is_exact = true;
+    println!("{:>8}{:>14}{:>14}{:>14}{:>8}{:>8}", "records", "expressions", "apart", "joined", "wrong", "unlike");
+    for records in 1..=number(records)? {
+        let found = exact::of_size(usize::try_from(records).map_err(message)?);
+        let [apart, joined] = found.answers;
+        let expressions = apart + joined;
+        println!("{records:>8}{expressions:>14}{apart:>14}{joined:>14}{:>8}{:>8}", found.wrong, found.unlike);
+        for example in &found.examples {
+            println!("    {example}");
+        }
+        is_exact &= found.is_exact();
+    }
+    Ok(is_exact)
 }
 
 /// `sample`: the file of what is asked and a seed.

@@ -20,6 +20,7 @@ pub mod states;
 use crate::answer::{answer, Outcome, Question, Root};
 use crate::cases::{cover, damage, limits, tight};
 use crate::grow;
+use crate::joined::{self, Joint, JOINTS};
 use crate::random::Random;
 use crate::read;
 use crate::refusal::Refusal;
@@ -36,8 +37,8 @@ const SPARE_ROOM: usize = 8;
 const GROWN: u64 = 60_000;
 /// Damages of each tree from which the refused ones are taken.
 const DAMAGES: usize = 400;
-/// Trees that are taken because they are joined.
-const JOINED: usize = 60;
+/// Trees that are taken for each sort of joint, because they are joined by it alone.
+const JOINED: usize = 20;
 /// Refusals are taken at the first so many places.
 const PLACES: usize = 12;
 /// The first record's kind in a sample of units.
@@ -132,7 +133,7 @@ fn first(kind: u8, cases: usize) -> Vec<u8> {
 }
 
 /// The cases of a root and a seed: the smallest trees with each kind and variant in three rooms, expressions of all sizes
-/// that are joined, every value of every setting, every refusal in several places, and the limits.
+/// that are joined in each way, every value of every setting, every refusal in several places, and the limits.
 pub fn cases(root: Root, seed: u64) -> Vec<Case> {
     let trees = cover::smallest(root, seed, GROWN);
     let covering = trees.iter().cloned().chain((root == Root::Unit).then(int_x));
@@ -150,11 +151,19 @@ fn int_x() -> Question {
     }
 }
 
-/// Grown expressions that are joined.
+/// Grown expressions that are joined, for each sort of joint some that are joined by it alone.
 fn joined(root: Root, seed: u64) -> impl Iterator<Item = Question> {
-    let grown = (0..).map(move |case| grow::rooted(Root::Expr, seed, case));
-    let joined = grown.filter(|question| answer(question).joined == Some(Outcome::Given(true)));
-    joined.take(if root == Root::Expr { JOINED } else { 0 })
+    let taken = if root == Root::Expr { JOINED } else { 0 };
+    JOINTS.into_iter().flat_map(move |joint| {
+        let grown = (0..).map(move |case| grow::rooted(Root::Expr, seed, case));
+        grown.filter(move |question| is_joined_only_by(question, joint)).take(taken)
+    })
+}
+
+/// Whether a question's expression is joined by this sort alone.
+fn is_joined_only_by(question: &Question, joint: Joint) -> bool {
+    let whole = read::expr(&question.records, &question.names);
+    whole.is_ok_and(|whole| joined::is_joined_only_by(&whole.tree, joint))
 }
 
 /// A text on which every setting is seen that a tree with this root can see.
@@ -277,9 +286,16 @@ mod tests {
             let values: BTreeSet<_> = good().flat_map(|q| q.settings.iter().copied().enumerate()).collect();
             assert_eq!(values, settings::values().collect());
         }
-        for joined in [(0, 0), (0, 1)] {
-            assert!(cases(Root::Expr, 1).iter().filter(|case| case.joined == joined).count() >= JOINED);
+    }
+
+    #[test]
+    fn the_sample_has_every_sort_of_joint_and_none() {
+        let cases = cases(Root::Expr, 1);
+        for joint in JOINTS {
+            let alone = cases.iter().filter(|case| case.joined == (0, 1) && is_joined_only_by(&case.question, joint));
+            assert!(alone.count() >= JOINED, "{joint:?}");
         }
+        assert!(cases.iter().filter(|case| case.joined == (0, 0)).count() >= JOINED);
     }
 
     #[test]

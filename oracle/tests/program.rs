@@ -89,6 +89,18 @@ fn samples_repeat_by_seed() {
 }
 
 #[test]
+fn exact_has_a_line_for_each_size() {
+    let output = run(&["exact", "2"], "");
+    assert_eq!(output.status.code(), Some(0));
+    let words: Vec<Vec<&str>> = text(&output.stdout).lines().map(|line| line.split_whitespace().collect()).collect();
+    assert_eq!(words[0], ["records", "expressions", "apart", "joined", "wrong", "unlike"]);
+    assert_eq!(words[1], ["1", "9", "9", "0", "0", "0"]);
+    // Joined are three dots over each of two ints, and `--1`.
+    assert_eq!(words[2], ["2", "108", "101", "7", "0", "0"]);
+    assert_eq!(words.len(), 3);
+}
+
+#[test]
 fn faults_end_with_status_2_and_a_message() {
     let missing = run(&["check", "no such file"], "");
     let cut = run(&["answer"], "Expr 00\n");

@@ -45,7 +45,7 @@ fn give_back() -> Vec<u8> {
     plain(68, 3)
 }
 
-// Document 01's rows, in its order.
+// Document 01's rows, in its order, with the two joined answers that 02's request #103 changes: minus over `--a`, and the Dot.
 
 #[test]
 fn a_minus_minus_b_is_joined() {
@@ -69,7 +69,7 @@ fn minus_of_minus() {
 
 #[test]
 fn minus_of_decrement_and_the_other_way_round() {
-    expr(&all(&[&negate(), &decrement(), &var(0)]), "a", "---a", "---a", false);
+    expr(&all(&[&negate(), &decrement(), &var(0)]), "a", "---a", "---a", true);
     expr(&all(&[&decrement(), &negate(), &var(0)]), "a", "---a", "---a", false);
 }
 
@@ -99,7 +99,7 @@ fn ternary_as_condition() {
 #[test]
 fn double_and_dot_of_one() {
     expr(&named(6, 0, 0), "1", "1.lf", "1.lf", false);
-    expr(&all(&[&rec(13, 0, 0, 0, 2), &int(1)]), "lf", "1.lf", "1.lf", false);
+    expr(&all(&[&rec(13, 0, 0, 0, 2), &int(1)]), "lf", "1.lf", "1.lf", true);
 }
 
 #[test]
@@ -124,6 +124,27 @@ fn declared_int_of_the_program() {
 }
 
 // Our own rows.
+
+/// The sign can be a constant's, or stand in a callee; a plus or a Dot that meets no sign and no IntConst joins nothing.
+#[test]
+fn signs_meet_or_not() {
+    let call = many(12, 0);
+    expr(&all(&[&negate(), &int(u32::MAX)]), "", "--1", "--1", true);
+    expr(&all(&[&negate(), &call, &negate(), &var(0)]), "a", "--a()", "--a()", true);
+    expr(&all(&[&minus(), &var(0), &call, &negate(), &var(1)]), "ab", "a--b()", "a - -b()", true);
+    expr(&all(&[&plain(7, 2), &plain(7, 0), &var(0)]), "a", "+++a", "+++a", true);
+    expr(&all(&[&plain(7, 2), &decrement(), &var(0)]), "a", "+--a", "+--a", false);
+    expr(&all(&[&named(13, 0, 0), &int(u32::MAX)]), "x", "-1.x", "-1.x", true);
+    expr(&all(&[&named(13, 0, 0), &rec(3, 0, 0, 1, 0)]), "x", "1u.x", "1u.x", false);
+    let product = all(&[&minus(), &var(0), &plain(8, 16), &negate(), &var(1), &var(2)]);
+    expr(&product, "abc", "a--b*c", "a - -b * c", true);
+    let weak_callee = all(&[&negate(), &call, &plain(16, 0), &negate(), &var(0), &var(1)]);
+    expr(&weak_callee, "ab", "--a,b()", "--a, b()", true);
+    let sized = all(&[&many(24, 1), &plain(25, 1), &negate(), &decrement(), &var(1)]);
+    let field = all(&[&many(26, 1), &plain(20, 0), &plain(21, 2), &named(27, 1, 0), &sized]);
+    let structure = all(&[&call, &plain(20, 0), &many(23, 1), &field]);
+    expr(&structure, "ab", "struct {int a[---b];}()", "struct  {\n    int a[---b];\n}()", true);
+}
 
 /// OPEN and TIGHT with collapse, and a mixture in which a flushed newline shows.
 const COLLAPSING: [u8; SIZE] = with(TIGHT, 15, 1);

@@ -11,3 +11,4 @@ pub mod Declarations
 pub mod Statements
 pub mod Classes
 pub mod Formed
+pub mod Signs

@@ -14,9 +14,11 @@ use Rattle.accept.specs.Refusal.{checkedNumber, checkedPlace}
 use Rattle.accept.specs.Check.{most-records, check}
 use Rattle.accepted.proofs.Places.{refused-there, in-range}
 use Rattle.checks.proofs.Small.{place-small}
-use Rattle.text.specs.Joined.{joinedAnswer}
+use Rattle.text.specs.Joined.{somewhere, joinedAnswer}
 use Rattle.joined.specs.Stack.{anyJoined}
+use Rattle.joined.specs.Sentence.{inWords}
 use Rattle.joined.proofs.Answer.{answer}
+use Rattle.joined.proofs.Sentence.{sentence}
 use Rattle.glsl.specs.declared.Whether.{Whether}
 use Rattle.glsl.specs.declared.Whether.the-variants.{No, Yes, Refused}
 use Rattle.glsl.specs.Joined.{whetherJoined, joinedOutcome, joinedNumber, joinedPlace, refusedAt, Answers}
@@ -56,6 +58,15 @@ module _ (records names : List ℕ) where
   answers r e =
       let told = judged-told (check records names Class.expr) (joinedAnswer records names) in
       record { answered = e; numbered = ap joinedNumber e ∙ told .0; placed = ap joinedPlace e ∙ told .1 }
+
+  -- an accepted expression's answer is document 02's sentence about its TIGHT text
+  pub answered-in-words : (byte : (p : ℕ) → getD records p 0 < 256) (m : ℕ) → check records names Class.expr ≡ Check.Next m
+      → (r : Whether) → Answers records names r → r ≡ cond (somewhere inWords (recordCount records) records names 0) Yes No
+  unfolding whetherJoined
+  answered-in-words byte m e r a =
+      a .answered
+      ∙ ap (λ (o : Checked). whetherJoined o (joinedAnswer records names)) e
+      ∙ ap (λ (x : Bool). cond x Yes No) (sentence records names byte m e)
 
   pub question-small : joinedPlace (joinedOutcome records names) < 2 ^ 32
   question-small = judged-place (check records names Class.expr) (joinedAnswer records names) (place-small records names Class.expr)

@@ -1,7 +1,9 @@
 pub mod Answer
 pub mod Heads
+pub mod Operands
+pub mod Own
 pub mod Pairs
 pub mod Parts
-pub mod Signs
+pub mod Sentence
 pub mod Stacked
 pub mod Steps

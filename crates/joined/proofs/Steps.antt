@@ -42,7 +42,7 @@ module _ (records : List ℕ) (n i : ℕ) where
   -- the walk before the next record, by what the code knows of it
   pub again : (stack : List ℕ) (top off : ℕ) (head : Head) (found : Bool) {r : Record} {h : Head} {right b k : ℕ} {j : Bool}
       → 0 < i → i ≤ n → walk records (n - i) i ≡ record { head = head; stack = drop top stack; found = found }
-      → r ≡ recordAt records (i - 1) → right ≡ getD (drop top stack) 1 0 → j ≡ joinsAt r right → h ≡ headOf r head → k ≡ childCount r
+      → r ≡ recordAt records (i - 1) → right ≡ getD (drop top stack) 1 0 → j ≡ joinsAt r head right → h ≡ headOf r head → k ≡ childCount r
       → 0 < off → off ≤ length stack → drop off stack ≡ drop k (drop top stack) → b ≡ bareSign h additive
       → walk records (n - (i - 1)) (i - 1) ≡ record { head = h; stack = drop (off - 1) (set stack (off - 1) b); found = j || found }
   again stack top off head found {b = b} some within e er eright ej eh ek above room eoff eb =

@@ -1,6 +1,6 @@
 -- What the walk of the joined question does with the records, from the last to the first. That its answer is the definition's (text, specs/Joined) for
 -- accepted records is shown in proofs/Answer. Assumes nothing.
-use mathlib.Core.Bool.{Bool, false, _&&_, _||_, cond}
+use mathlib.Core.Bool.{Bool, false, not, _&&_, _||_, cond}
 use mathlib.Core.List.{List, [], _∷_}
 use Prim.Native.Nat.{ℕ, zero, suc, _+_}
 use Prim.Native.Char.{code}
@@ -11,7 +11,7 @@ use Rattle.records.specs.declared.Record.{Record}
 use Rattle.records.specs.Record.{recordCount, recordAt}
 use Rattle.shapes.specs.Shape.{lastVariant}
 use Rattle.accept.specs.Check.{childrenOf, most-records}
-use Rattle.text.specs.Operator.{postfix-precedence, binary-precedence, ternary-precedence, assignment-precedence, comma-precedence}
+use Rattle.text.specs.Operator.{postfix-precedence, unary-precedence, binary-precedence, ternary-precedence, assignment-precedence, comma-precedence}
 use Rattle.text.specs.Reading.{binaryOp}
 use Rattle.precedence.specs.Precedence.{precedenceOf}
 use Rattle.joined.specs.declared.Head.{Head}
@@ -48,12 +48,31 @@ signOf r next =
     (cond (eqb (r .kind) 7) (unarySign (r .variant))
     (cond (eqb (r .kind) 12) (next .sign) (bareSign next (firstBelow (r .kind) (r .variant)))))
 
-unfoldable pub headOf : Record → (next : Head) → Head
-headOf r next = record { sign = signOf r next; precedence = precedenceOf (r .kind) (r .variant) }
+-- the sign that an operator is, by the variants of plus and minus; 0 for all others, ++ and -- too
+unfoldable pub plusOrMinus : (variant plus minus : ℕ) → ℕ
+plusOrMinus v plus minus = cond (eqb v plus) (code "+") (cond (eqb v minus) (code "-") 0)
 
--- a binary + (variant 14) or - (15), and its right operand's byte
-unfoldable pub joinsAt : Record → ℕ → Bool
-joinsAt r right = eqb (r .kind) 8 && (eqb (r .variant) 14 && eqb right (code "+") || eqb (r .variant) 15 && eqb right (code "-"))
+-- what a record is by itself: a unary plus (variant 2) or minus (3) is its sign, an IntConst a point, and all others are 0
+unfoldable pub ownOf : (kind variant : ℕ) → ℕ
+ownOf k v = cond (eqb k 2) (code ".") (cond (eqb k 7) (plusOrMinus v 2 3) 0)
+
+unfoldable pub headOf : Record → (next : Head) → Head
+headOf r next = record { sign = signOf r next; precedence = precedenceOf (r .kind) (r .variant); own = ownOf (r .kind) (r .variant) }
+
+-- an operator that is this sign, or none, before an operand that begins with one
+unfoldable pub joinsWith : (op sign : ℕ) → Bool
+joinsWith op s = not (eqb op 0) && eqb op s
+
+-- the sign that an operand begins with under a unary plus or minus: plus over plus and minus over minus are in parentheses
+unfoldable pub underSign : Head → (op : ℕ) → ℕ
+underSign h op = cond (eqb (h .own) op) 0 (bareSign h (unary-precedence + 1))
+
+-- a Unary over the record behind it, a Binary (plus is variant 14, minus 15) by its right operand's byte, a Dot over the record behind it
+unfoldable pub joinsAt : Record → (next : Head) → (right : ℕ) → Bool
+joinsAt r next right =
+    cond (eqb (r .kind) 7) (joinsWith (ownOf (r .kind) (r .variant)) (underSign next (ownOf (r .kind) (r .variant))))
+    (cond (eqb (r .kind) 8) (joinsWith (plusOrMinus (r .variant) 14 15) right)
+    (cond (eqb (r .kind) 13) (eqb (next .own) (code ".")) false))
 
 -- none where the variant is beyond the last, which the check refuses: then the table has no row
 unfoldable pub childCount : Record → ℕ
@@ -65,11 +84,11 @@ pub record State : Type 0 where
   pub head : Head
   -- for each tree behind it, nearest first, the sign that it would begin with as the right operand of a + or -; trees that are children of one tree are taken off for it
   pub stack : List ℕ
-  -- was there a binary operator that joins?
+  -- was there a place that is joined?
   pub found : Bool
 
 abbrev pub no-head : Head
-no-head = record { sign = 0; precedence = 0 }
+no-head = record { sign = 0; precedence = 0; own = 0 }
 
 abbrev pub start : State
 start = record { head = no-head; stack = []; found = false }
@@ -82,7 +101,7 @@ abbrev pub step : Record → State → State
 step r s = record {
   head = headOf r (s .head);
   stack = bareSign (headOf r (s .head)) additive ∷ drop (childCount r) (s .stack);
-  found = joinsAt r (getD (s .stack) 1 0) || s .found;
+  found = joinsAt r (s .head) (getD (s .stack) 1 0) || s .found;
 }
 
 -- n records from record i on

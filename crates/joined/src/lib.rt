@@ -1,6 +1,7 @@
-// The joined question (01, "Calls"), asked of the records alone: one walk over them from the last to the first, without recursion.
+// The joined question (01, "Calls", as 02, #103 mends it), asked of the records alone: one walk over them from the last to the first, without recursion.
 // The walk keeps a stack, its top first: a byte for each tree that stands behind the record at hand and within its parents. A record takes its
-// children's bytes off and puts its own byte on, so that at a binary operator the second byte is the right operand's.
+// children's bytes off and puts its own byte on, so that at a binary operator the second byte is the right operand's. A unary operator's operand, and
+// what a Dot is of, stand right behind it.
 ghost use mathlib.Core.Path.{_≡_};
 ghost use mathlib.Core.List.{List};
 ghost use Prim.Native.Nat.{ℕ, _+_, _≤_};
@@ -11,15 +12,21 @@ ghost use Rattle.joined.specs.Stack as Stack;
 use records::Record;
 use shapes::rows::Shapes;
 
-// How the text of an expression begins, and how strongly it binds.
+// How the text of an expression begins, how strongly it binds, and what it is by itself: a unary plus or minus has its sign, an IntConst a point.
 pub struct Head {
     pub sign: u8,
     pub precedence: u8,
+    pub own: u8,
 }
+
+// A sign is its byte.
+const NO_SIGN: u8 = 0;
 
 const PLUS: u8 = 43;
 
 const MINUS: u8 = 45;
+
+const POINT: u8 = 46;
 
 const MOST_RECORDS: usize = 4096;
 
@@ -28,6 +35,8 @@ const PARTS: usize = 4;
 
 // Below these, what binds as strongly is bare too.
 const PAST_POSTFIX: u8 = precedence::POSTFIX + 1;
+
+const PAST_UNARY: u8 = precedence::UNARY + 1;
 
 const PAST_COMMA: u8 = precedence::COMMA + 1;
 
@@ -48,7 +57,7 @@ fn first_below(kind: u8, v: u8) -> u8
     }
 }
 
-// The sign that a unary operator begins with, or 0.
+// The sign that a unary operator begins with.
 fn unary_sign(v: u8) -> u8
     ensures { λ r. ⌜ r ≡ Stack.unarySign v ⌝ }
 {
@@ -57,7 +66,7 @@ fn unary_sign(v: u8) -> u8
         1 => MINUS,
         2 => PLUS,
         3 => MINUS,
-        _ => 0,
+        _ => NO_SIGN,
     }
 }
 
@@ -68,7 +77,7 @@ fn int_sign(a: u32) -> u8
     if decimal::is_negative(a) {
         return MINUS;
     }
-    0
+    NO_SIGN
 }
 
 // The sign that an operand begins with where it is bare if it binds below `below`; in parentheses it begins with none.
@@ -78,7 +87,7 @@ fn bare_sign(operand: Head, below: u8) -> u8
     if operand.precedence < below {
         return operand.sign;
     }
-    0
+    NO_SIGN
 }
 
 // The sign that the text of the expression begins with whose record this is, before another.
@@ -94,20 +103,71 @@ fn sign_of(r: Record, next: Head) -> u8
     }
 }
 
+// The sign that an operator is, by its variant and those of plus and minus; all others are none, ++ and -- too.
+fn plus_or_minus(v: u8, plus: u8, minus: u8) -> u8
+    ensures { λ r. ⌜ r ≡ Stack.plusOrMinus v plus minus ⌝ }
+{
+    if v == plus {
+        return PLUS;
+    }
+    if v == minus {
+        return MINUS;
+    }
+    NO_SIGN
+}
+
+// What a record is by itself. (Of unary operators plus is variant 2, minus 3; of binary ones, below, 14 and 15.)
+fn own_of(kind: u8, v: u8) -> u8
+    ensures { λ r. ⌜ r ≡ Stack.ownOf kind v ⌝ }
+{
+    match kind {
+        2 => POINT,
+        7 => plus_or_minus(v, 2, 3),
+        _ => NO_SIGN,
+    }
+}
+
 fn head_of(r: Record, next: Head) -> Head
     ensures { λ h. ⌜ h ≡ Stack.headOf r next ⌝ }
 {
     Head {
         sign: sign_of(r, next),
         precedence: precedence::of_expr(r.kind, r.variant),
+        own: own_of(r.kind, r.variant),
     }
 }
 
-// Is it a binary + or - whose bare right operand begins with the same sign?
-fn joins(r: Record, right: u8) -> bool
-    ensures { λ b. ⌜ b ≡ Stack.joinsAt r right ⌝ }
+// Does an operator that is this sign, or none, join an operand that begins with `sign`?
+fn joins_with(op: u8, sign: u8) -> bool
+    ensures { λ b. ⌜ b ≡ Stack.joinsWith op sign ⌝ }
 {
-    (r.kind == 8) & ((r.variant == 14) & (right == PLUS) | (r.variant == 15) & (right == MINUS))
+    (op != NO_SIGN) & (op == sign)
+}
+
+// The sign that an operand begins with under a unary plus or minus: plus over plus and minus over minus are in parentheses.
+fn under_sign(operand: Head, op: u8) -> u8
+    ensures { λ r. ⌜ r ≡ Stack.underSign operand op ⌝ }
+{
+    if operand.own == op {
+        return NO_SIGN;
+    }
+    bare_sign(operand, PAST_UNARY)
+}
+
+// Is this place joined: a unary plus or minus over `next`, a binary one whose right operand begins with `right`, a Dot over an IntConst?
+fn joins(r: Record, next: Head, right: u8) -> bool
+    ensures { λ b. ⌜ b ≡ Stack.joinsAt r next right ⌝ }
+{
+    let kind = r.kind;
+    match kind {
+        7 => {
+            let op = own_of(kind, r.variant);
+            joins_with(op, under_sign(next, op))
+        },
+        8 => joins_with(plus_or_minus(r.variant, 14, 15), right),
+        13 => next.own == POINT,
+        _ => false,
+    }
 }
 
 // How many children the parts of a row stand for, in a record that counts n.
@@ -168,15 +228,16 @@ fn walk(t: &Shapes, records: &[u8], stack: &mut [u8], n: usize) -> bool
 {
     let mut found = false;
     let mut head = Head {
-        sign: 0,
-        precedence: 0,
+        sign: NO_SIGN,
+        precedence: precedence::ATOMIC,
+        own: NO_SIGN,
     };
     let mut top = stack.len();
     let mut i = n;
     while 0 < i {
         i -= 1;
         let r = records::record_at(records, i);
-        found = joins(r, second(stack, top)) | found;
+        found = joins(r, head, second(stack, top)) | found;
         head = head_of(r, head);
         top = taken_off(stack.len(), top, children(t, r)) - 1;
         stack[top] = bare_sign(head, precedence::ADDITIVE);
@@ -184,7 +245,7 @@ fn walk(t: &Shapes, records: &[u8], stack: &mut [u8], n: usize) -> bool
     found
 }
 
-// Does some binary + or - have a bare right operand that begins with the same sign? It goes by the records alone, and is meant for accepted ones.
+// Is some place joined? It goes by the records alone, and is meant for accepted ones.
 pub fn any_joined(records: &[u8]) -> bool
     ensures { λ r. ⌜ r ≡ Stack.anyJoined (now (records .entry)) ⌝ }
 {

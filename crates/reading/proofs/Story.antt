@@ -1,9 +1,11 @@
 -- The story of `n---k`, from the bytes of records and names: n minus a decremented k, printed in OPEN, is read as itself; printed in TIGHT it is read as n, decremented
--- afterwards, minus k, and not as itself; and the joined question says so. Assumes nothing.
+-- afterwards, minus k, and not as itself; and the joined question says so. Where a unary sign or a dot runs together with what stands beside it no settings help: `---k` and `1.lf` are
+-- misread in OPEN too, and the joined question (02, #103) says so. Assumes nothing.
 use mathlib.Core.Path.{_≡_, refl}
 use mathlib.Core.Bool.{true}
 use mathlib.Core.List.{List, [], _∷_, _++_}
 use Prim.Native.Nat.{ℕ, zero, suc, _<_}
+use Prim.Native.String.{String}
 use native.Mathlib.Omega.{arith}
 use lib.Dec.{ltb}
 use lib.ListN.{getD, replicate}
@@ -11,12 +13,12 @@ use borrow.Author.Tests.{ltb-true}
 use Rattle.words.specs.Bytes.{bytes}
 use Rattle.words.specs.Form.{all}
 use Rattle.words.specs.Symbol.Symbol.{dash, dec-op}
-use Rattle.records.proofs.Made.{plain, named}
+use Rattle.records.proofs.Made.{rec, plain, named}
 use Rattle.settings.specs.Settings.{TIGHT, OPEN}
 use Rattle.accepted.proofs.Case.{computing as checking}
 use Rattle.text.specs.Token.Token.{name, symbol}
 use Rattle.text.specs.Tree.{UnaryOp, BinaryOp, Expr}
-use Rattle.text.specs.Tree.Expr.{Variable, Unary, Binary, PostDec}
+use Rattle.text.specs.Tree.Expr.{Variable, IntConst, DoubleConst, Unary, Binary, Dot, PostDec}
 use Rattle.sound.specs.Sound.{Unmixed}
 use Rattle.text.specs.Reading.{expr, from}
 use Rattle.text.specs.Whole.{exprText}
@@ -33,7 +35,7 @@ use Rattle.reading.specs.Demand3.{Call, SpacedAndSound}
 use Rattle.reading.proofs.Computing.{reading}
 use Rattle.reading.proofs.Demand3.{in-glsl, one-expression}
 use Rattle.reading.proofs.Spelled.{tok}
-use Rattle.reading.proofs.Needed.{as-reader}
+use Rattle.reading.proofs.Needed.{Misread, as-reader, minus-over-dec, dot-over-int}
 
 -- what is lent: records (kind 8 variant 15 is minus, kind 7 variant 1 a decrement before, kind 15 a decrement afterwards), names, a room of 16 bytes
 abbrev pub names : List ℕ
@@ -55,9 +57,22 @@ n-minus-decremented-k = Binary BinaryOp.Sub (Variable (bytes "n")) (Unary UnaryO
 abbrev n-decremented-minus-k : Expr
 n-decremented-minus-k = Binary BinaryOp.Sub (PostDec (Variable (bytes "n"))) (Variable (bytes "k"))
 
+-- minus of a decremented k and a decremented minus k; the field lf of 1 (kind 13, kind 2), and a double (kind 6)
+abbrev minus-over : List ℕ
+minus-over = plain 7 3 ++ plain 7 1 ++ named 1 0 0
+
+abbrev decrement-over : List ℕ
+decrement-over = plain 7 1 ++ plain 7 3 ++ named 1 0 0
+
+abbrev dot-over : List ℕ
+dot-over = rec 13 0 0 0 2 ++ rec 2 0 0 1 0
+
+abbrev double : List ℕ
+double = named 6 0 2
+
 -- what print_expr hands back
-abbrev handed : (settings records : List ℕ) → List ℕ
-handed settings records = front (exprOutcome settings records names room) (exprText settings records names)
+abbrev handed : (settings records names : List ℕ) → List ℕ
+handed settings records names = front (exprOutcome settings records names room) (exprText settings records names)
 
 -- records in which every number is below 256 are bytes
 pub bytes-below : (bs : List ℕ) → all (λ b. ltb b 256) bs ≡ true → (p : ℕ) → getD bs p 0 < 256
@@ -66,22 +81,32 @@ bytes-below [] h p = omega arith
 bytes-below (b ∷ bs) h zero = ltb-true b 256 (both (ltb b 256) (all (λ b. ltb b 256) bs) h .0)
 bytes-below (b ∷ bs) h (suc p) = bytes-below bs (both (ltb b 256) (all (λ b. ltb b 256) bs) h .1) p
 
+-- under some settings the records of two trees are printed as one text
+abbrev pub OneText : (settings records others names : List ℕ) (written : String) → Type 0
+OneText settings records others names written = (handed settings records names ≡ bytes written) × (handed settings others names ≡ bytes written)
+
+-- the text is read as the second tree and not as the first, and the joined question tells the two apart
+pub record Lost (records others names : List ℕ) (written : String) (tree other : Expr) : Type 0 where
+  pub first : expr (from records names 0) .tree ≡ tree
+  pub second : expr (from others names 0) .tree ≡ other
+  pub read : IsRead glsl-word (bytes written) other
+  pub lost : IsRead glsl-word (bytes written) tree → ⊥
+  pub joined : joinedOutcome records names ≡ Yes
+  pub not-joined : joinedOutcome others names ≡ No
+
 pub record Story : Type 0 where
-  -- the records hold the two expressions
-  pub first : expr (from minus-decremented names 0) .tree ≡ n-minus-decremented-k
-  pub second : expr (from decremented-minus names 0) .tree ≡ n-decremented-minus-k
   -- OPEN: two texts, and the first is read as itself
-  pub open-text : handed OPEN minus-decremented ≡ bytes "n - --k"
-  pub open-other : handed OPEN decremented-minus ≡ bytes "n-- - k"
+  pub open-text : handed OPEN minus-decremented names ≡ bytes "n - --k"
+  pub open-other : handed OPEN decremented-minus names ≡ bytes "n-- - k"
   pub open-read : IsRead glsl-word (bytes "n - --k") n-minus-decremented-k
-  -- TIGHT: one text, which is read as the second and not as the first
-  pub tight-text : handed TIGHT minus-decremented ≡ bytes "n---k"
-  pub tight-other : handed TIGHT decremented-minus ≡ bytes "n---k"
-  pub tight-read : IsRead glsl-word (bytes "n---k") n-decremented-minus-k
-  pub tight-lost : IsRead glsl-word (bytes "n---k") n-minus-decremented-k → ⊥
-  -- and the joined question tells them apart
-  pub joined : joinedOutcome minus-decremented names ≡ Yes
-  pub not-joined : joinedOutcome decremented-minus names ≡ No
+  -- TIGHT: one text, and the first is lost
+  pub tight-text : OneText TIGHT minus-decremented decremented-minus names "n---k"
+  pub tight-lost : Lost minus-decremented decremented-minus names "n---k" n-minus-decremented-k n-decremented-minus-k
+  -- a unary sign, and a dot behind a whole number: one text in TIGHT and in OPEN
+  pub sign-texts : OneText TIGHT minus-over decrement-over (bytes "k") "---k" × OneText OPEN minus-over decrement-over (bytes "k") "---k"
+  pub sign-lost : Lost minus-over decrement-over (bytes "k") "---k" (Unary UnaryOp.Minus (Unary UnaryOp.Dec (Variable (bytes "k")))) (Unary UnaryOp.Dec (Unary UnaryOp.Minus (Variable (bytes "k"))))
+  pub point-texts : OneText TIGHT dot-over double (bytes "lf1") "1.lf" × OneText OPEN dot-over double (bytes "lf1") "1.lf"
+  pub point-lost : Lost dot-over double (bytes "lf1") "1.lf" (Dot (bytes "lf") (IntConst 1)) (DoubleConst (bytes "1"))
 
 tight : IsRead glsl-word (bytes "n---k") n-decremented-minus-k
 unfolding computing reading
@@ -115,18 +140,20 @@ pub open-sound : SpacedAndSound open-call
 unfolding computing checking reading fitted outcome open-call
 open-sound = record { spaced = refl; sound = (refl, (over-name UnaryOp.Dec (bytes "k"), refl)) }
 
+-- what is misread is not read as itself
+misread-lost : {tree other : Expr} (written : String) → Misread tree written other → IsRead glsl-word (bytes written) tree → ⊥
+misread-lost written m r = m .other (one-expression glsl-between (m .read) r)
+
 pub story : Story
 unfolding computing checking reading fitted outcome whetherJoined open-call
 story = record {
-  first = refl;
-  second = refl;
   open-text = refl;
   open-other = refl;
   open-read = in-glsl .read-as open-call open-sound;
-  tight-text = refl;
-  tight-other = refl;
-  tight-read = tight;
-  tight-lost = λ r. different (one-expression glsl-between tight r);
-  joined = refl;
-  not-joined = refl;
+  tight-text = (refl, refl);
+  tight-lost = record { first = refl; second = refl; read = tight; lost = λ r. different (one-expression glsl-between tight r); joined = refl; not-joined = refl };
+  sign-texts = ((refl, refl), (refl, refl));
+  sign-lost = record { first = refl; second = refl; read = minus-over-dec .read; lost = misread-lost "---k" minus-over-dec; joined = refl; not-joined = refl };
+  point-texts = ((refl, refl), (refl, refl));
+  point-lost = record { first = refl; second = refl; read = dot-over-int .read; lost = misread-lost "1.lf" dot-over-int; joined = refl; not-joined = refl };
 }

@@ -1,15 +1,19 @@
 // Replays samples of the oracle's answers about expressions, units, records' names and lent states (oracle/src/sample.rs writes them and has their format): asks the public
 // functions again, TIGHT and OPEN too, and compares answers, parts that are handed back, and every byte of the room. Reading is total: what stands beyond a sample's end reads as nothing, and then the answers differ.
 ghost use mathlib.Core.Path.{_≡_};
-ghost use mathlib.Core.Bool.{_&&_, cond};
-ghost use Prim.Native.Nat.{_+_, _≤_, min};
+ghost use mathlib.Core.Bool.{_&&_, _||_, cond};
+ghost use Prim.Native.Nat.{_+_, _*_, _/_, _%_, _≤_, min};
 ghost use lib.Dec.{eqb};
 ghost use Rattle.io.specs.Counts.{Counts};
+ghost use Rattle.words.specs.Form.{same};
+ghost use Rattle.records.specs.Record.{nameAt};
+ghost use Rattle.settings.specs.Bytes.{settingsBytes};
 ghost use Rattle.pen.specs.Sheet.{last-place};
 ghost use Rattle.text.specs.Whole.{unitText, exprText};
 ghost use Rattle.glsl.specs.Printed.{Prints, unitOutcome, exprOutcome, refusalNumber};
 ghost use Rattle.glsl.specs.Root.{value};
-ghost use Rattle.glsl.specs.Joined.{joinedNumber};
+ghost use Rattle.glsl.specs.Joined.{joinedNumber, joinedOutcome};
+ghost use Rattle.replay.specs.Said.{joinedValue};
 use glsl::Printed;
 use glsl::Whether;
 use libc::STDOUT_FILENO;
@@ -62,7 +66,7 @@ fn print_answer(o: Printed) -> Answer
 }
 
 fn joined_answer(o: Whether) -> Answer
-    ensures { λ r. ⌜ r .number ≡ joinedNumber o ⌝ }
+    ensures { λ r. ⌜ (r .number ≡ joinedNumber o) × (r .value ≡ joinedValue o) ⌝ }
 {
     match o {
         Whether::No => Answer {
@@ -219,18 +223,27 @@ fn prints_so_in_front<'b>(
 }
 
 // Whether the joined question is answered so; a unit is not asked about.
-fn joins_so(is_unit: bool, tree: &[u8], names: &[u8], number: u8, value: u32) -> bool {
-    is_unit || is(joined_answer(glsl::joined(tree, names)), number, value)
+fn joins_so(is_unit: bool, tree: &[u8], names: &[u8], number: u8, value: u32) -> bool
+    ensures { λ r. ⌜ r ≡ («is_unit» || eqb (joinedNumber (joinedOutcome (now (tree .entry)) (now (names .entry)))) number && eqb (joinedValue (joinedOutcome (now (tree .entry)) (now (names .entry)))) value) ⌝ }
+{
+    if is_unit {
+        return true;
+    }
+    is(joined_answer(glsl::joined(tree, names)), number, value)
 }
 
 // Whether the name of the record at an index, which comes in two halves, is so.
-fn names_so(tree: &[u8], names: &[u8], low: u32, high: u32, text: &[u8]) -> bool {
+fn names_so(tree: &[u8], names: &[u8], low: u32, high: u32, text: &[u8]) -> bool
+    ensures { λ r. ⌜ r ≡ same (nameAt (now (tree .entry)) (now (names .entry)) (low + 4294967296 * high)) (now (text .entry)) ⌝ }
+{
     let i = low as usize + 4294967296 * (high as usize);
     words::same(records::name(tree, names, i), text)
 }
 
 // A state, by its level and its flags.
-fn state_of(level: u16, flags: u8) -> FormattingState {
+fn state_of(level: u16, flags: u8) -> FormattingState
+    ensures { λ r. ⌜ (r .«indentation_level» ≡ level) × (r .«new_line_pending» ≡ eqb (flags % 2) 1) × (r .«in_function_definition_statement» ≡ eqb (flags / 2) 1) ⌝ }
+{
     FormattingState {
         indentation_level: level,
         new_line_pending: flags % 2 == 1,
@@ -358,7 +371,9 @@ fn replay(path: &[u8], bytes: &mut [u8], room: &mut [u8]) {
 }
 
 // Whether settings are said by this record.
-fn is_record(settings: Settings, record: &[u8]) -> bool {
+fn is_record(settings: Settings, record: &[u8]) -> bool
+    ensures { λ r. ⌜ r ≡ same (settingsBytes settings) (now («record» .entry)) ⌝ }
+{
     let bytes = settings.to_bytes();
     words::same(&bytes, record)
 }

@@ -2,7 +2,7 @@
 use mathlib.Core.Path.{_≡_, refl, sym}
 use mathlib.Core.Bool.{Bool, true, false, not, _&&_, _||_, and-true, and-false, cond}
 use mathlib.Core.List.{List, [], _++_, append-nil}
-use Prim.Native.Nat.{ℕ, zero, suc, _-_, _≤_}
+use Prim.Native.Nat.{ℕ, suc, _-_, _≤_}
 use native.Mathlib.Omega.{arith}
 use lib.Dec.{leb, ltb, eqb}
 use borrow.Author.Tests.{lt-ltb, le-ltb, le-leb, lt-leb, ne-eqb, eqb-true}
@@ -15,7 +15,7 @@ use Rattle.text.specs.Tree.{UnaryOp, BinaryOp, Expr}
 use Rattle.text.specs.Operator.{precedence, binary-precedence, unary-precedence, unary-symbol, doubled, doubles, binary-op}
 use Rattle.text.specs.Text.{a-symbol, bare-if, show-expr}
 use Rattle.text.specs.Reading.{Item, Read, Reader, unaryOp, exprOf, expr}
-use Rattle.text.proofs.ByKind.{either}
+use Rattle.text.proofs.ByKind.{either, by-variant}
 use Rattle.leaves.specs.Operand.{mostUnder}
 
 -- an operand
@@ -71,15 +71,6 @@ any-bare e = le-leb (precedence e) 17 (weakest e)
 -- below q is at most q - 1
 pub below : (n q : ℕ) → 1 ≤ q → leb n (q - 1) ≡ ltb n q
 below n q h = same-answer n (q - 1) n q (λ k. omega arith) (λ k. omega arith)
-
--- by the variant of an operator, of which the last stands for all beyond it
-by-variant : (P : ℕ → Type 0) → P 0 → P 1 → P 2 → P 3 → P 4 → ((n : ℕ) → P (suc (suc (suc (suc (suc n)))))) → (v : ℕ) → P v
-by-variant P a b c d e f zero = a
-by-variant P a b c d e f (suc zero) = b
-by-variant P a b c d e f (suc (suc zero)) = c
-by-variant P a b c d e f (suc (suc (suc zero))) = d
-by-variant P a b c d e f (suc (suc (suc (suc zero)))) = e
-by-variant P a b c d e f (suc (suc (suc (suc (suc n))))) = f n
 
 -- two operators spell ++ or -- where they are the same, plus or minus (000's own test)
 doubled-at : (v w : ℕ) → doubled (unaryOp v) (unaryOp w) ≡ (eqb v 2 || eqb v 3) && eqb w v

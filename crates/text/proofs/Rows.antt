@@ -79,7 +79,7 @@ rows-of-01 =
     ++ expr (minus ++ plain 15 0 ++ var 0 ++ var 1) "ab" "a---b" "a-- - b" false
     ++ expr (minus ++ var 0 ++ decrement ++ var 1) "ab" "a---b" "a - --b" true
     ++ expr (negate ++ negate ++ var 0) "a" "-(-a)" "-(-a)" false
-    ++ expr (negate ++ decrement ++ var 0) "a" "---a" "---a" false
+    ++ expr (negate ++ decrement ++ var 0) "a" "---a" "---a" true
     ++ expr (decrement ++ negate ++ var 0) "a" "---a" "---a" false
     ++ expr (minus ++ var 0 ++ minus ++ var 1 ++ var 2) "abc" "a-(b-c)" "a - (b - c)" false
     ++ expr (minus ++ minus ++ var 0 ++ var 1 ++ var 2) "abc" "a-b-c" "a - b - c" false
@@ -87,11 +87,48 @@ rows-of-01 =
     ++ expr (many 12 1 ++ var 0 ++ plain 16 0 ++ var 1 ++ var 2) "fab" "f(a,b)" "f(a, b)" false
     ++ expr (choose ++ choose ++ var 0 ++ var 1 ++ var 2 ++ var 3 ++ var 4) "abcde" "(a?b:c)?d:e" "(a ? b : c) ? d : e" false
     ++ expr (named 6 0 0) "1" "1.lf" "1.lf" false
-    ++ expr (rec 13 0 0 0 2 ++ int 1) "lf" "1.lf" "1.lf" false
+    ++ expr (rec 13 0 0 0 2 ++ int 1) "lf" "1.lf" "1.lf" true
     ++ expr (int 2147483648) "" "-2147483648" "-2147483648" false
     ++ unit (many 80 0) "" "" ""
     ++ unit (many 80 1 ++ function 0 ++ block 1 ++ plain 68 4 ++ negate ++ var 1) "fa" "void f(){return -a;}" "void f() {\n    return -a;\n}\n"
     ++ unit (many 80 1 ++ declared 0 ++ keyword 2) "x" "int x;" "int x;"
+
+-- the joined question as 02, #103 mends it, what 01's rows don't see of it: a negative IntConst under minus, plus, parentheses, first operands, callees, one that binds most weakly among
+-- them, `++` behind minus; a Dot over each numeric constant; a place in a dimension, and in that of a struct's field
+abbrev minus-one : List ℕ
+minus-one = int 4294967295
+
+abbrev increment : List ℕ
+increment = plain 7 0
+
+abbrev posit : List ℕ
+posit = plain 7 2
+
+abbrev field : ℕ → List ℕ
+field a = named 13 0 a
+
+abbrev sized : List ℕ
+sized = many 24 1 ++ plain 25 1
+
+abbrev pub rows-of-103 : List Case
+rows-of-103 =
+    expr (negate ++ minus-one) "" "--1" "--1" true
+    ++ expr (minus ++ var 0 ++ minus-one) "a" "a--1" "a - -1" true
+    ++ expr (posit ++ increment ++ var 0) "a" "+++a" "+++a" true
+    ++ expr (posit ++ posit ++ var 0) "a" "+(+a)" "+(+a)" false
+    ++ expr (posit ++ negate ++ var 0) "a" "+-a" "+-a" false
+    ++ expr (negate ++ increment ++ var 0) "a" "-++a" "-++a" false
+    ++ expr (minus ++ var 0 ++ plain 8 16 ++ negate ++ var 1 ++ var 2) "abc" "a--b*c" "a - -b * c" true
+    ++ expr (negate ++ many 12 0 ++ negate ++ var 0) "a" "--a()" "--a()" true
+    ++ expr (negate ++ many 12 0 ++ plain 16 0 ++ negate ++ var 0 ++ var 1) "ab" "--a,b()" "--a, b()" true
+    ++ expr (negate ++ plain 15 0 ++ negate ++ var 0) "a" "-(-a)--" "-(-a)--" false
+    ++ expr (negate ++ minus ++ negate ++ var 0 ++ var 1) "ab" "-(-a-b)" "-(-a - b)" false
+    ++ expr (field 0 ++ minus-one) "x" "-1.x" "-1.x" true
+    ++ expr (field 0 ++ rec 3 0 0 1 0) "x" "1u.x" "1u.x" false
+    ++ expr (field 1 ++ named 5 0 0) "1x" "1..x" "1..x" false
+    ++ expr (field 1 ++ named 6 0 0) "1x" "1.lf.x" "1.lf.x" false
+    ++ expr (many 12 0 ++ plain 20 1 ++ plain 21 2 ++ sized ++ negate ++ decrement ++ var 0) "a" "int[---a]()" "int[---a]()" true
+    ++ expr (many 12 0 ++ plain 20 0 ++ many 23 1 ++ many 26 1 ++ keyword 2 ++ named 27 1 0 ++ sized ++ negate ++ decrement ++ var 1) "ab" "struct {int a[---b];}()" "struct  {\n    int a[---b];\n}()" true
 
 -- what no row of document 01 sees: a flush, collapse, nested blocks (texts of the Rust module)
 abbrev if-else : List ℕ
@@ -111,7 +148,7 @@ our-rows =
     ++ unit nested-structs "sSxt" "struct S{struct {float x;} t;} s;" "struct S {\n    struct  {\n        float x;\n    } t;\n} s;"
 
 abbrev pub rows : List Case
-rows = rows-of-01 ++ our-rows
+rows = rows-of-01 ++ rows-of-103 ++ our-rows
 
 -- the definition gives each row's outcome
 pub match : map defined rows ≡ map (λ c. c .outcome) rows

@@ -4,6 +4,7 @@ pub mod Asked
 pub mod Command
 pub mod Pen
 pub mod Operator
+pub mod Joins
 pub mod Text
 pub mod Reading
 pub mod Whole

@@ -1,4 +1,5 @@
--- Operators (000 HasPrecedence and show_expr): the symbol of each, how strongly it binds, and when an operand of it stands without parentheses. Assumes nothing.
+-- Operators (000 HasPrecedence and show_expr): the symbol of each, how strongly it binds, and when a unary operator's operand and a binary one's right operand stand without parentheses.
+-- Assumes nothing.
 use mathlib.Core.Bool.{Bool, false, not, _&&_}
 use mathlib.Core.List.{List, [], _∷_, _++_}
 use Prim.Native.Nat.{ℕ}
@@ -125,7 +126,7 @@ doubles op (Expr.PostInc e) = false
 doubles op (Expr.PostDec e) = false
 doubles op (Expr.Comma a b) = false
 
--- in show_expr: when an operand stands without parentheses, a unary operator's and a binary operator's right one
+-- in show_expr: when these operands stand without parentheses
 abbrev pub bare-operand : UnaryOp → Expr → Bool
 bare-operand op e = leb (precedence e) unary-precedence && not (doubles op e)
 

@@ -12,7 +12,7 @@ use Rattle.text.specs.Token.{Token}
 use Rattle.text.specs.Command.{Command, word, symbol, enter-compound-statement-block, enter-external-declaration, enter-block, exit-block, enter-collapsed-compound-statement, exit-collapsed-compound-statement, enter-initializer-list, end-initializer-list, enter-case-label, write-else, write-struct-field-separator, write-list-separator, write-for-statement-separator, write-declaration-terminator, write-binary-op, write-statement-terminator, write-function-definition-terminator, write-statement-opening-parenthesis, write-statement-closing-parenthesis}
 use Rattle.text.specs.Command.Command.{token, space, flush-line, flush-space, consume-newline, enter-function-definition-statement, consume-function-definition-statement}
 use Rattle.text.specs.Operator.{postfix-precedence, ternary-precedence, assignment-precedence, comma-precedence, binary-precedence, binary-symbol, precedence, unary-symbol, assignment-symbol, bare-operand, bare-right}
-use Rattle.text.specs.Tree.{Identifier, UnaryOp, BinaryOp, AssignmentOp, Expr, Exprs, FunIdentifier, TypeSpecifier, TypeSpecifiers, TypeSpecifierNonArray, ArraySpecifier, ArraySpecifierDimension, StructFieldSpecifier, StructFieldSpecifiers, ArrayedIdentifier, ArrayedIdentifiers, Qualification, TypeQualifier, TypeQualifierSpec, LayoutQualifier, LayoutQualifierSpec, FullySpecifiedType, FunctionParameterDeclaration, FunctionPrototype, Initializer, Initializers, SingleDeclaration, SingleDeclarationNoType, InitDeclaratorList, Block, Declaration, Condition, ForInitStatement, JumpStatement, Statement, Statements, ExternalDeclaration, TranslationUnit}
+use Rattle.text.specs.Tree.{Identifier, Expr, Exprs, FunIdentifier, TypeSpecifier, TypeSpecifiers, TypeSpecifierNonArray, ArraySpecifier, ArraySpecifierDimension, StructFieldSpecifier, StructFieldSpecifiers, ArrayedIdentifier, ArrayedIdentifiers, Qualification, TypeQualifier, TypeQualifierSpec, LayoutQualifier, LayoutQualifierSpec, FullySpecifiedType, FunctionParameterDeclaration, FunctionPrototype, Initializer, Initializers, SingleDeclaration, SingleDeclarationNoType, InitDeclaratorList, Block, Declaration, Condition, ForInitStatement, JumpStatement, Statement, Statements, ExternalDeclaration, TranslationUnit}
 
 -- small lists, for `write!`, `f.write_char` and `f.write_str`
 

@@ -2,7 +2,7 @@
 use mathlib.Core.Path.{refl}
 use Rattle.text.specs.Case.{defined}
 use Rattle.text.proofs.Computing.{computing}
-use Rattle.vectors.specs.Vector.{Vector, expr, joined-expr, unit, hex}
+use Rattle.vectors.specs.Vector.{Vector, expr, joined-expr, hex}
 
 pub v25 : Vector (expr "011001010100010100000200000002010001010001"
     "040100000000000000000000"
@@ -81,100 +81,100 @@ pub v35 : Vector (expr "021000000100010102010102000000010001000100"
 unfolding computing defined hex
 v35 = record { outcome = refl; size = refl }
 
-pub v36 : Vector (unit "000000000000000000000000000000000000000000"
-    "500000000000000000000000"
-    ""
-    "")
+pub v36 : Vector (expr "020201000000010001010101010102010101000001"
+    "10000000000000000000000006000000000000000800000002000000feffffff00000000"
+    "8.234375"
+    "8.234375lf, -2")
 unfolding computing defined hex
 v36 = record { outcome = refl; size = refl }
 
-pub v37 : Vector (unit "000000000001010002020101000002010000010101"
-    "500000000000000000000000"
+pub v37 : Vector (expr "020401010101010102020202010202000101010101"
+    "0c0000000000000000000000140000000000000000000000151200000000000000000000"
     ""
-    "")
+    "uvec2()")
 unfolding computing defined hex
 v37 = record { outcome = refl; size = refl }
 
-pub v38 : Vector (unit "000001010100010101010201000000010101010100"
-    "500000000000000000000000"
-    ""
-    "")
-unfolding computing defined hex
-v38 = record { outcome = refl; size = refl }
-
-pub v39 : Vector (unit "000200010001010002010102000201000101010100"
-    "500000000000000000000000"
-    ""
-    "")
-unfolding computing defined hex
-v39 = record { outcome = refl; size = refl }
-
-pub v40 : Vector (unit "000201010001010002010001000001000100000100"
-    "500000000000000000000000"
-    ""
-    "")
-unfolding computing defined hex
-v40 = record { outcome = refl; size = refl }
-
-pub v41 : Vector (unit "000301000100010101000002000201000100010001"
-    "500000000000000000000000"
-    ""
-    "")
-unfolding computing defined hex
-v41 = record { outcome = refl; size = refl }
-
-pub v42 : Vector (unit "000401010000010102010101010100000000010100"
-    "500000000000000000000000"
-    ""
-    "")
-unfolding computing defined hex
-v42 = record { outcome = refl; size = refl }
-
-pub v43 : Vector (unit "000600000000000102020200000200000000010100"
-    "500000000000000000000000"
-    ""
-    "")
-unfolding computing defined hex
-v43 = record { outcome = refl; size = refl }
-
-pub v44 : Vector (unit "000601010101000100020000010102010000010000"
-    "500000000000000000000000"
-    ""
-    "")
-unfolding computing defined hex
-v44 = record { outcome = refl; size = refl }
-
-pub v45 : Vector (unit "000700010001000000020001010002000101010000"
-    "500000000000000000000000"
-    ""
-    "")
-unfolding computing defined hex
-v45 = record { outcome = refl; size = refl }
-
-pub v46 : Vector (unit "000700010101000102000000000200000000000100"
-    "500000000000000000000000"
-    ""
-    "")
-unfolding computing defined hex
-v46 = record { outcome = refl; size = refl }
-
-pub v47 : Vector (expr "010200000101000000020000010201010100010101"
-    "0c0000000000000000000000140000000000000000000000151700000000000000000000"
-    ""
-    "mat4()")
-unfolding computing defined hex
-v47 = record { outcome = refl; size = refl }
-
-pub v48 : Vector (expr "010c00010101000102000202000001000101010000"
-    "0c0000000000000000000000140000000000000000000000152100000000000000000000"
-    ""
-    "dmat2()")
-unfolding computing defined hex
-v48 = record { outcome = refl; size = refl }
-
-pub v49 : Vector (joined-expr "000e00000100010102000102010000000101010000"
+pub v38 : Vector (joined-expr "000e00000100010102000102010000000101010000"
     "080f0000000000000000000005000000000000000600000007030000000000000000000002000000b5a3757b00000000"
     "79.043"
     "79.043 - -2071307189")
+unfolding computing defined hex
+v38 = record { outcome = refl; size = refl }
+
+pub v39 : Vector (expr "001000010101010000020002000202000000010001"
+    "0c0001000000000000000000140000000000000000000000152500000000000000000000040000000000000000000000"
+    ""
+    "dmat2x3(false)")
+unfolding computing defined hex
+v39 = record { outcome = refl; size = refl }
+
+pub v40 : Vector (joined-expr "010d00010100000102010102000001010000000101"
+    "0b00000000000000000000000600000000000000070000000d000000070000000500000002000000ffffff7f00000000"
+    "14.1875true_"
+    "14.1875lf[2147483647.true_]")
+unfolding computing defined hex
+v40 = record { outcome = refl; size = refl }
+
+pub v41 : Vector (expr "020701000100010101020102000200010000000101"
+    "0b0000000000000000000000030000000000008000000000070200000000000000000000010000000000000004000000"
+    "vITx"
+    "2147483648u[+vITx]")
+unfolding computing defined hex
+v41 = record { outcome = refl; size = refl }
+
+pub v42 : Vector (joined-expr "020900010100010001020100000101010100000001"
+    "0703000000000000000000000c00000000000000000000000703000000000000000000000200000031bd020000000000"
+    ""
+    "--179505()")
+unfolding computing defined hex
+v42 = record { outcome = refl; size = refl }
+
+pub v43 : Vector (expr "020e00010001010002010101000202010000000000"
+    "0f0000000000000000000000100000000000000000000000010000000000000027000000010000000000000027000000"
+    "u8dh9OEhoqaaBvHIGg8433bduLH1yTXdknEbFws"
+    "(u8dh9OEhoqaaBvHIGg8433bduLH1yTXdknEbFws,u8dh9OEhoqaaBvHIGg8433bduLH1yTXdknEbFws)--")
+unfolding computing defined hex
+v43 = record { outcome = refl; size = refl }
+
+pub v44 : Vector (expr "000000000000000000000000000000000000000000"
+    "0900000000000000000000000500000000000000020000000f0000000000000000000000050000000200000002000000020000005a250b0000000000"
+    "8044"
+    "80.?44.--:730458")
+unfolding computing defined hex
+v44 = record { outcome = refl; size = refl }
+
+pub v45 : Vector (expr "000000000000000000000000000000000000000000"
+    "0c00010000000000000000001400000000000000000000001600000000000000010000000d0000000000000001000000040100000000000000000000"
+    "U"
+    "U(true.U)")
+unfolding computing defined hex
+v45 = record { outcome = refl; size = refl }
+
+pub v46 : Vector (expr "000000000000000000000000000000000000000000"
+    "0d0000000000000008000000090000000000000000000000040000000000000000000000010000000000000008000000050000000800000007000000"
+    "cgVm_Hq_1.09375"
+    "(false?cgVm_Hq_:1.09375).cgVm_Hq_")
+unfolding computing defined hex
+v46 = record { outcome = refl; size = refl }
+
+pub v47 : Vector (joined-expr "010700010001010001020100010000010000010101"
+    "0d00000000000000040000000d0000000400000003000000080f00000000000000000000030000004f0000000000000002000000ffffffff00000000"
+    "cyRfz8N"
+    "(79u - -1).z8N.cyRf")
+unfolding computing defined hex
+v47 = record { outcome = refl; size = refl }
+
+pub v48 : Vector (joined-expr "010a00010101000000020202000101010101000001"
+    "080e000000000000000000000500000000000000090000000d00000009000000010000000d0000000900000001000000020000000100000000000000"
+    "14.390625f"
+    "14.390625+1.f.f")
+unfolding computing defined hex
+v48 = record { outcome = refl; size = refl }
+
+pub v49 : Vector (expr "010c00010100010101010201000200010101010001"
+    "0809000000000000000000000c0000000000000000000000140000000000000000000000160000000000000002000000060000000200000003000000"
+    "If0.1"
+    "If()>0.1lf")
 unfolding computing defined hex
 v49 = record { outcome = refl; size = refl }

@@ -2,7 +2,8 @@
 
 use crate::ask::{Said, NUMBERS};
 use oracle::answer::{Question, Root};
-use oracle::cases::{cover, damage, large, limits, short};
+use oracle::cases::{cover, damage, large, limits, short, signs};
+use oracle::exact;
 use oracle::grow;
 use oracle::line;
 use oracle::random::Random;
@@ -11,6 +12,13 @@ use std::collections::BTreeMap;
 
 /// Grown trees from which the smallest ones with each kind and variant are taken.
 const GROWN_TO_CHOOSE: u64 = 60_000;
+
+/// The sort that is about the joined question: a run in which it is answered one way alone compares too little. (Its questions
+/// are the same in every run, so that only happens if they are changed.)
+const SIGNS: &str = "signs";
+
+/// All expressions of up to so many records are asked about.
+const SMALL: usize = 4;
 
 /// Questions of one sort.
 struct Family<'a> {
@@ -140,14 +148,23 @@ fn missing<T: std::fmt::Debug>(what: &str, counts: &BTreeMap<T, u64>) -> usize {
     missing.len()
 }
 
+/// Whether questions of [`SIGNS`] had both joined answers, given how often no and how often yes; says so where they had not.
+fn is_joined_both_ways([apart, joined]: [u64; 2]) -> bool {
+    let both = apart > 0 && joined > 0;
+    if !both {
+        println!("{SIGNS}: {apart} apart and {joined} joined, but both must be met");
+    }
+    both
+}
+
 /// Asks everything with this root; prints a line for each family, the sum, and the shortest question of each family that
-/// differs. Whether nothing differs and every kind and variant, and every value of every settings byte, was met in good
-/// trees.
+/// differs. Whether nothing differs, every kind and variant, and every value of every settings byte, was met in good trees,
+/// and expressions in which signs meet were joined as well as apart.
 pub fn run(root: Root, seed: u64, cases: u64, ask: impl Fn(&Question) -> Said) -> bool {
     let trees = cover::smallest(root, seed, GROWN_TO_CHOOSE);
     let words = limits::near_words();
     let every_byte: Vec<u8> = (0..=255).collect();
-    let (mut all, mut met) = (Tally::default(), Met::none(root));
+    let (mut all, mut met, mut signs) = (Tally::default(), Met::none(root), [0; 2]);
     println!("{}", heading(root));
     for family in families(root, seed, cases, &trees, &words, &every_byte) {
         let mut tally = Tally::default();
@@ -161,6 +178,9 @@ pub fn run(root: Root, seed: u64, cases: u64, ask: impl Fn(&Question) -> Said) -
         if tally.questions > 0 {
             tally.print(family.name);
         }
+        if family.name == SIGNS {
+            signs = tally.joined;
+        }
         all.add(&tally);
     }
     all.print("all");
@@ -169,7 +189,10 @@ pub fn run(root: Root, seed: u64, cases: u64, ask: impl Fn(&Question) -> Said) -
     if is_printed {
         println!("prints of good trees into rooms: {fitting} that fit, {larger} larger, {small} a byte too small");
     }
-    met.print(is_printed) && all.differing == 0
+    // The joined question is asked beside the prints, about expressions.
+    let is_asked = is_printed && root == Root::Expr;
+    let both_ways = !is_asked || is_joined_both_ways(signs);
+    met.print(is_printed) && both_ways && all.differing == 0
 }
 
 /// All questions, with other roots too. `trees` show every kind and variant.
@@ -206,6 +229,8 @@ fn families<'a>(
         family("long texts", Box::new(limits::long_texts())),
         family("short texts", Box::new(limits::short_texts())),
         family("offsets", Box::new(limits::offsets())),
+        family(SIGNS, Box::new(signs::questions())),
+        family("all small", Box::new(exact::questions(SMALL).into_iter())),
         family("large", Box::new((0..cases.div_ceil(1_000)).flat_map(move |case| large_ones(root, seed, case)))),
     ]
 }
@@ -224,4 +249,22 @@ fn large_ones(root: Root, seed: u64, case: u64) -> Vec<Question> {
     let damaged = trees.iter().flat_map(|tree| [1, 1, 1, 1, 2, 2, 3].map(|times| (tree, times)));
     let damaged: Vec<Question> = damaged.map(|(tree, times)| damage::several(tree, times, &mut random)).collect();
     trees.into_iter().chain(damaged).collect()
+}
+
+#[cfg(test)]
+mod tests {
+    use super::*;
+
+    #[test]
+    fn signs_are_among_the_questions() {
+        let families = families(Root::Expr, 1, 0, &[], &[], &[]);
+        let signs = families.into_iter().find(|family| family.name == SIGNS);
+        assert!(signs.is_some_and(|family| family.questions.count() > 100_000));
+    }
+
+    #[test]
+    fn signs_that_are_answered_one_way_alone_are_too_few() {
+        assert!(is_joined_both_ways([1, 1]));
+        assert!([[0, 0], [1, 0], [0, 1]].into_iter().all(|answers| !is_joined_both_ways(answers)));
+    }
 }

@@ -1,5 +1,5 @@
-//! Questions on which a printer is compared with the oracle: whole trees and damaged ones, short inputs, and inputs at
-//! document 01's limits. [`large`] makes the trees on which times are taken.
+//! Questions on which a printer is compared with the oracle: whole trees and damaged ones, short inputs, inputs at document
+//! 01's limits, and expressions in which signs meet. [`large`] makes the trees on which times are taken.
 //!
 //! Most are iterators that make a question when it is asked for; what is random goes by seed, so that it can be had again.
 
@@ -8,6 +8,7 @@ pub mod damage;
 pub mod large;
 pub mod limits;
 pub mod short;
+pub mod signs;
 
 use crate::answer::{Question, Root};
 use crate::settings;

@@ -23,11 +23,12 @@
 //!
 //! With spaces around operators (settings byte 12, as in [`OPEN`]) the text of a sound expression is read by GLSL 4.60's grammar as
 //! that expression and as no other; that is proved too. Sound leaves out a few shapes that are misread under any settings, among
-//! them minus over `--a`, which is printed as `---a`, minus over a negative IntConst, `--1`, and a field of an IntConst, `1.lf`. Without these spaces ([`TIGHT`]) signs can
-//! meet: `n - --k` is printed as `n---k`, which is read as `n-- - k`. [`joined`] tells of that beforehand; that texts without these
-//! spaces are read as they were meant otherwise is not proved. Of units nothing is promised but their text: an `if` without an
-//! `else` that is the first statement of an `if` with one takes that `else` when it is read, under any settings. docs/READING.md
-//! and docs/DIFFERENCES.md of the repository say more.
+//! them minus over `--a`, which is printed as `---a`, minus over a negative IntConst, `--1`, and a field of an IntConst, `1.lf`.
+//! Without these spaces ([`TIGHT`]) signs can meet: `n - --k` is printed as `n---k`, which is read as `n-- - k`. [`joined`] tells
+//! beforehand whether signs meet somewhere, or a dot and a whole number; that texts without these spaces are read as they were meant
+//! otherwise is not proved. Of units nothing is promised but their text: an `if` without an `else` that is the first statement of an
+//! `if` with one takes that `else` when it is read, under any settings. docs/READING.md and docs/DIFFERENCES.md of the repository say
+//! more.
 //!
 //! # Stack
 //!
@@ -48,7 +49,9 @@ pub use refusal::{Refusal, Refused};
 pub type Settings = [u8; 21];
 
 /// The least space: none around operators, no line breaks. The text can be read as ANOTHER expression than the tree's, as `n---k` for
-/// `n - --k`: ask [`joined`] first, and where it answers true print with spaces around operators (byte 12).
+/// `n - --k`: ask [`joined`] first, and where it answers true print with spaces around operators (byte 12). They keep a binary
+/// operator and its operand apart. No settings keep the other two sorts apart (see [`joined`]): such a tree is not sound, and only
+/// another tree helps.
 pub const TIGHT: Settings = [0; 21];
 
 /// For people: spaces around operators, a line for each statement, indents of four spaces. Sound expressions are read as they were
@@ -129,15 +132,26 @@ pub fn print_expr_growing<'room>(
     written(answer, room)
 }
 
-/// Asks whether an expression is joined: whether under [`TIGHT`] some binary + or - has a right operand without brackets whose
-/// text begins with the same sign, as in `a--b` for a - -b, so that the two signs are read as one. It tells exactly that, and today
-/// neither minus over `--a` (`---a`) or over a negative IntConst (`--1`) nor a field of an IntConst (`1.lf`).
+/// Asks whether an expression is joined. It is so exactly if, under [`TIGHT`], somewhere in it
+///
+/// - a binary + or - has a right operand without brackets whose text begins with the same sign: `a--b` for a - -b, `n---k` for
+///   n - --k;
+/// - a unary + or - has an operand without brackets whose text begins with the same sign: `---a` for minus over --a, `--1` for minus
+///   over the IntConst -1;
+/// - a Dot stands directly over an IntConst: `1.lf`.
+///
+/// The two signs, or number and dot, are then read as one token. Spaces around operators (settings byte 12) keep the first sort apart;
+/// the other two are printed so under all settings (they are not sound).
 ///
 /// ```
 /// use glsl_print::{joined, record};
 ///
-/// let records = [record(8, 15, 0, 0, 0), record(1, 0, 0, 0, 1), record(7, 3, 0, 0, 0), record(1, 0, 0, 1, 1)].concat();
-/// assert!(joined(&records, b"ab")?);
+/// let [minus, negate, decrement] = [record(8, 15, 0, 0, 0), record(7, 3, 0, 0, 0), record(7, 1, 0, 0, 0)];
+/// let [a, b, one] = [record(1, 0, 0, 0, 1), record(1, 0, 0, 1, 1), record(2, 0, 0, 1, 0)];
+/// assert!(joined(&[minus, a, negate, b].concat(), b"ab")?); // a--b
+/// assert!(joined(&[negate, decrement, a].concat(), b"ab")?); // ---a
+/// assert!(!joined(&[decrement, negate, a].concat(), b"ab")?); // ---a too, and read as it was meant
+/// assert!(joined(&[record(13, 0, 0, 1, 1), one].concat(), b"ab")?); // 1.b
 /// # Ok::<(), glsl_print::Refused>(())
 /// ```
 ///

@@ -53,7 +53,7 @@ fn expressions_of_document_01() {
     expression(&[MINUS, DECREMENT_BEHIND, a, b], "a---b", "a-- - b", false);
     expression(&[MINUS, a, DECREMENT, b], "a---b", "a - --b", true);
     expression(&[NEGATIVE, NEGATIVE, a], "-(-a)", "-(-a)", false);
-    expression(&[NEGATIVE, DECREMENT, a], "---a", "---a", false);
+    expression(&[NEGATIVE, DECREMENT, a], "---a", "---a", true);
     expression(&[DECREMENT, NEGATIVE, a], "---a", "---a", false);
     expression(&[MINUS, a, MINUS, b, c], "a-(b-c)", "a - (b - c)", false);
     expression(&[MINUS, MINUS, a, b, c], "a-b-c", "a - b - c", false);
@@ -61,8 +61,36 @@ fn expressions_of_document_01() {
     expression(&[record(12, 0, 1, 0, 0), f, plain(16, 0), a, b], "f(a,b)", "f(a, b)", false);
     expression(&[TERNARY, TERNARY, a, b, c, d, e], "(a?b:c)?d:e", "(a ? b : c) ? d : e", false);
     expression(&[named(6, 0, b'1')], "1.lf", "1.lf", false);
-    expression(&[record(13, 0, 0, 8, 2), ONE], "1.lf", "1.lf", false);
+    expression(&[record(13, 0, 0, 8, 2), ONE], "1.lf", "1.lf", true);
     expression(&[record(2, 0, 0, 1 << 31, 0)], "-2147483648", "-2147483648", false);
+}
+
+/// What document 01's rows don't see of the joined question as request #103 mends it.
+#[test]
+fn joined_of_request_103() {
+    let [plus, increment, minus_one] = [plain(7, 2), plain(7, 0), record(2, 0, 0, u32::MAX, 0)];
+    let [call, field] = [plain(12, 0), named(13, 0, b'x')];
+    let [a, b, c] = [b'a', b'b', b'c'].map(variable);
+    expression(&[NEGATIVE, minus_one], "--1", "--1", true);
+    expression(&[MINUS, a, minus_one], "a--1", "a - -1", true);
+    expression(&[plus, increment, a], "+++a", "+++a", true);
+    expression(&[plus, plus, a], "+(+a)", "+(+a)", false);
+    expression(&[plus, NEGATIVE, a], "+-a", "+-a", false);
+    expression(&[NEGATIVE, increment, a], "-++a", "-++a", false);
+    expression(&[MINUS, a, plain(8, 16), NEGATIVE, b, c], "a--b*c", "a - -b * c", true);
+    expression(&[NEGATIVE, call, NEGATIVE, a], "--a()", "--a()", true);
+    expression(&[NEGATIVE, call, plain(16, 0), NEGATIVE, a, b], "--a,b()", "--a, b()", true);
+    expression(&[NEGATIVE, DECREMENT_BEHIND, NEGATIVE, a], "-(-a)--", "-(-a)--", false);
+    expression(&[field, minus_one], "-1.x", "-1.x", true);
+    expression(&[field, record(3, 0, 0, 1, 0)], "1u.x", "1u.x", false);
+    expression(&[field, named(5, 0, b'1')], "1..x", "1..x", false);
+    expression(&[field, named(6, 0, b'1')], "1.lf.x", "1.lf.x", false);
+    let dimension = [call, plain(20, 1), plain(21, 2), record(24, 0, 1, 0, 0), plain(25, 1), NEGATIVE, DECREMENT, a];
+    expression(&dimension, "int[---a]()", "int[---a]()", true);
+    let field = [record(26, 0, 1, 0, 0), plain(20, 0), plain(21, 2), named(27, 1, b'a'), record(24, 0, 1, 0, 0)];
+    let structure = [call, plain(20, 0), record(23, 0, 1, 0, 0)].into_iter().chain(field);
+    let structure: Vec<Record> = structure.chain([plain(25, 1), NEGATIVE, DECREMENT, b]).collect();
+    expression(&structure, "struct {int a[---b];}()", "struct  {\n    int a[---b];\n}()", true);
 }
 
 #[test]

@@ -1,9 +1,8 @@
--- The sign that an expression begins with, from its tree as the walk has it from the records, and that it is what the text of a formed expression begins
--- with, whatever the settings are. Assumes nothing.
-use mathlib.Core.Path.{_≡_, refl, sym, _∙_, ap, subst}
+-- A formed expression begins with its sign (text, specs/Joins), whatever the settings are. Assumes nothing.
+use mathlib.Core.Path.{_≡_, refl, sym, _∙_, ap}
 use mathlib.Core.Bool.{Bool, true, false, _&&_, _||_, cond, not, and-eq-true-iff as both}
 use mathlib.Core.List.{List, [], _∷_, _++_, append-nil}
-use Prim.Native.Nat.{ℕ, _+_, _≤_}
+use Prim.Native.Nat.{ℕ, _≤_}
 use Prim.Native.Char.{code}
 use native.Mathlib.Omega.{arith}
 use native.Mathlib.Nat.{not-suc-le-zero}
@@ -17,69 +16,25 @@ use Rattle.words.specs.Keyword.{typeKeywords, fixedWords}
 use Rattle.words.specs.Form.{between, digit, letter, nameByte, all, oneOf, nameForm, digits, wholePart, behindDigits, nothingOrFraction, floatForm, longest-name, longest-float}
 use Rattle.decimal.specs.Decimal.{decimal, negative, magnitude}
 use Rattle.decimal.proofs.Laws.{length-positive, all-digits}
-use Rattle.records.proofs.Laws.{same-answer}
 use Rattle.shapes.proofs.Says.{below, at}
 use Rattle.settings.specs.declared.Settings.{Settings}
 use Rattle.settings.specs.declared.FormattingState.{FormattingState}
-use Rattle.settings.specs.Settings.{settingsOf, TIGHT}
-use Rattle.settings.specs.State.{fresh}
 use Rattle.text.specs.Token.{Token, spell, has, point, pointed}
 use Rattle.text.specs.Command.{Command}
 use Rattle.text.specs.Command.Command.{token}
 use Rattle.text.specs.Pen.{written, after, text, afterAll}
 use Rattle.text.specs.Tree.{UnaryOp, Expr, FunIdentifier, TypeSpecifier, TypeSpecifierNonArray}
 use Rattle.text.specs.Operator.{precedence, postfix-precedence, binary-precedence, ternary-precedence, assignment-precedence, comma-precedence, unary-symbol}
+use Rattle.text.specs.Joins.{unary-sign, sign-if, sign, sign-callee}
 use Rattle.text.specs.Text.{bare-if, show-int, bool-word, show-expr, show-function-identifier, show-type-specifier, show-type-specifier-non-array}
-use Rattle.text.specs.Joined.{begins}
 use Rattle.text.proofs.Append.{text-append}
 use Rattle.formed.specs.Formed.{Name, Float, KeywordNumber, Formed-expr, Formed-callee, Formed-type, Formed-base}
-use Rattle.joined.specs.declared.Head.{Head}
-use Rattle.joined.specs.Stack.{intSign, bareSign}
 
 abbrev pub plus : ℕ
 plus = code "+"
 
 abbrev pub minus : ℕ
 minus = code "-"
-
-unfoldable pub unary-sign : UnaryOp → ℕ
-unary-sign UnaryOp.Inc = plus
-unary-sign UnaryOp.Dec = minus
-unary-sign UnaryOp.Add = plus
-unary-sign UnaryOp.Minus = minus
-unary-sign UnaryOp.Not = 0
-unary-sign UnaryOp.Complement = 0
-
--- an operand that begins with sign s and is bare below a precedence
-abbrev pub bare : Expr → (s below : ℕ) → ℕ
-bare e s below = bareSign (record { sign = s; precedence = precedence e }) below
-
-unfoldable mutual
-  pub sign : Expr → ℕ
-  sign Expr.no-expr = 0
-  sign (Expr.Variable i) = 0
-  sign (Expr.IntConst n) = intSign n
-  sign (Expr.UIntConst n) = 0
-  sign (Expr.BoolConst b) = 0
-  sign (Expr.FloatConst t) = 0
-  sign (Expr.DoubleConst t) = 0
-  sign (Expr.Unary op e) = unary-sign op
-  sign (Expr.Binary op l r) = bare l (sign l) (binary-precedence op + 1)
-  sign (Expr.Ternary c s e) = bare c (sign c) ternary-precedence
-  sign (Expr.Assignment op v e) = bare v (sign v) assignment-precedence
-  sign (Expr.Bracket e a) = bare e (sign e) (postfix-precedence + 1)
-  sign (Expr.FunCall f es) = sign-callee f
-  sign (Expr.Dot i e) = bare e (sign e) (postfix-precedence + 1)
-  sign (Expr.PostInc e) = bare e (sign e) postfix-precedence
-  sign (Expr.PostDec e) = bare e (sign e) postfix-precedence
-  sign (Expr.Comma a b) = bare a (sign a) (comma-precedence + 1)
-
-  pub sign-callee : FunIdentifier → ℕ
-  sign-callee (FunIdentifier.OfType t) = 0
-  sign-callee (FunIdentifier.OfExpr e) = sign e
-
-abbrev pub head : Expr → Head
-head e = record { sign = sign e; precedence = precedence e }
 
 -- a byte as a sign
 abbrev pub signByte : ℕ → ℕ
@@ -109,10 +64,10 @@ starts-token k cs b bs e h = record {
 }
 
 -- in parentheses it begins with no sign
-starts-bare : {s : ℕ} {cs : List Command} (b : Bool) → Starts s cs → Starts (cond b s 0) (bare-if b cs)
+starts-bare : {s : ℕ} {cs : List Command} (b : Bool) → Starts s cs → Starts (sign-if b s) (bare-if b cs)
 unfolding spell symbolText
 starts-bare true h = h
-starts-bare {cs = cs} false h = starts-token (Token.symbol Symbol.left-paren) _ (code "(") [] refl refl
+starts-bare false h = starts-token (Token.symbol Symbol.left-paren) _ (code "(") [] refl refl
 
 -- a byte that passes a test which no sign passes
 no-sign : (test : ℕ → Bool) (b : ℕ) → test plus ≡ false → test minus ≡ false → test b ≡ true → signByte b ≡ 0
@@ -162,8 +117,8 @@ number-starts n ds k e = go (decimal n) (length-positive n) (all-digits n 0 (len
     go [] h d e = absurd (not-suc-le-zero h)
     go (b ∷ bs) h d e = starts-token k [] b (bs ++ ds) e (no-sign digit b refl refl (both (leb (code "0") b) (leb b (code "9")) .1 (le-leb _ _ (d .0), le-leb _ _ (d .1))))
 
-int-starts : (n : ℕ) → Starts (intSign n) (show-int n)
-unfolding intSign spell symbolText
+int-starts : (n : ℕ) → Starts (cond (negative n) minus 0) (show-int n)
+unfolding spell symbolText
 int-starts n = go (negative n)
   where
     number : Starts 0 (token (Token.int (magnitude n)) ∷ [])
@@ -216,22 +171,8 @@ unfolding spell wordText
 bool-starts true = starts-token _ [] (code "t") (bytes "rue") refl refl
 bool-starts false = starts-token _ [] (code "f") (bytes "alse") refl refl
 
--- up to a precedence is below the next
-up-to : (p n : ℕ) → leb p n ≡ ltb p (n + 1)
-up-to p n = same-answer p n p (n + 1) (λ h. omega arith) (λ h. omega arith)
-
--- an operand at the front: bare up to a precedence, or below one
-module _ (e : Expr) {s : ℕ} (n : ℕ) (h : Starts s (show-expr e)) where
-  front-up-to : Starts (bare e s (n + 1)) (bare-if (leb (precedence e) n) (show-expr e))
-  unfolding bareSign
-  front-up-to = subst (λ (b : Bool). Starts (cond b s 0) (bare-if (leb (precedence e) n) (show-expr e))) (up-to (precedence e) n) (starts-bare (leb (precedence e) n) h)
-
-  front-below : Starts (bare e s n) (bare-if (ltb (precedence e) n) (show-expr e))
-  unfolding bareSign
-  front-below = starts-bare (ltb (precedence e) n) h
-
 mutual
-  unfolding sign show-expr Formed-expr bareSign spell
+  unfolding sign show-expr Formed-expr spell
 
   pub expr-starts : (e : Expr) → Formed-expr e → Starts (sign e) (show-expr e)
   expr-starts Expr.no-expr h = absurd h
@@ -242,23 +183,16 @@ mutual
   expr-starts (Expr.FloatConst t) h = float-starts t [] h (Token.float t) (sym (append-nil (pointed t)))
   expr-starts (Expr.DoubleConst t) h = float-starts t (bytes "lf") h (Token.double t) refl
   expr-starts (Expr.Unary op e) h = unary-starts op _
-  expr-starts (Expr.Binary op l r) h = front-up-to l (binary-precedence op) (expr-starts l (h .0)) and-more _ and-more _
-  expr-starts (Expr.Ternary c s e) h = front-below c ternary-precedence (expr-starts c (h .0)) and-more _ and-more _ and-more _ and-more _
-  expr-starts (Expr.Assignment op v e) h = front-below v assignment-precedence (expr-starts v (h .0)) and-more _ and-more _
-  expr-starts (Expr.Bracket e a) h = front-up-to e postfix-precedence (expr-starts e (h .0)) and-more _
+  expr-starts (Expr.Binary op l r) h = starts-bare (leb (precedence l) (binary-precedence op)) (expr-starts l (h .0)) and-more _ and-more _
+  expr-starts (Expr.Ternary c s e) h = starts-bare (ltb (precedence c) ternary-precedence) (expr-starts c (h .0)) and-more _ and-more _ and-more _ and-more _
+  expr-starts (Expr.Assignment op v e) h = starts-bare (ltb (precedence v) assignment-precedence) (expr-starts v (h .0)) and-more _ and-more _
+  expr-starts (Expr.Bracket e a) h = starts-bare (leb (precedence e) postfix-precedence) (expr-starts e (h .0)) and-more _
   expr-starts (Expr.FunCall f es) h = callee-starts f (h .0) and-more _
-  expr-starts (Expr.Dot i e) h = front-up-to e postfix-precedence (expr-starts e (h .1)) and-more _ and-more _
-  expr-starts (Expr.PostInc e) h = front-below e postfix-precedence (expr-starts e h) and-more _
-  expr-starts (Expr.PostDec e) h = front-below e postfix-precedence (expr-starts e h) and-more _
-  expr-starts (Expr.Comma a b) h = front-up-to a comma-precedence (expr-starts a (h .0)) and-more _ and-more _
+  expr-starts (Expr.Dot i e) h = starts-bare (leb (precedence e) postfix-precedence) (expr-starts e (h .1)) and-more _ and-more _
+  expr-starts (Expr.PostInc e) h = starts-bare (ltb (precedence e) postfix-precedence) (expr-starts e h) and-more _
+  expr-starts (Expr.PostDec e) h = starts-bare (ltb (precedence e) postfix-precedence) (expr-starts e h) and-more _
+  expr-starts (Expr.Comma a b) h = starts-bare (leb (precedence a) comma-precedence) (expr-starts a (h .0)) and-more _ and-more _
 
   callee-starts : (f : FunIdentifier) → Formed-callee f → Starts (sign-callee f) (show-function-identifier f)
   callee-starts (FunIdentifier.OfType t) h = type-starts t h
   callee-starts (FunIdentifier.OfExpr e) h = expr-starts e h
-
--- the first byte of a formed expression's text
-pub begins-with : (e : Expr) → Formed-expr e → signByte (begins e) ≡ sign e
-unfolding begins
-begins-with e h =
-    let s = expr-starts e h in
-    ap (λ (v : List ℕ). signByte (getD v 0 0)) (s .starts (settingsOf TIGHT) fresh .1) ∙ s .same
