@@ -1,8 +1,8 @@
 /* The proved GLSL printer, for callers from C (C99 or later) and C++ (C++11 or later).
  *
- * A tree comes as records of 12 bytes with a buffer of names, the layout as 21 bytes of settings; GLSL comes out in a room that the
- * caller lends. docs/RECORDS.md has all kinds of records and all settings, byte by byte. Link target/native/libglsl.a, which
- * `sh tools/staticlib.sh glsl` writes. examples/c/expression.c is a whole program.
+ * A tree comes as records of 12 bytes with a buffer of names, the layout as 21 or 22 bytes of settings (exports use GLSL_EXPORT);
+ * GLSL comes out in a room that the caller lends. docs/RECORDS.md has all kinds of records and all settings, byte by byte. Link
+ * target/native/libglsl.a, which `sh tools/staticlib.sh glsl` writes. examples/c/expression.c is a whole program.
  *
  * Promised by each call, whatever the bytes that it gets, and proved of the library's code (what is trusted for that: docs/PROMISES.md):
  *   - It returns, with the text or with the first refusal in the order of their numbers (of 4 to 11, the first faulty record's).
@@ -13,14 +13,15 @@
  *     number of threads may call at the same time, each with a room of its own.
  *
  * What a text is read as (docs/READING.md):
- *   - With spaces around operators (settings byte 12, as in GLSL_OPEN) the text of a sound expression is read by GLSL 4.60's grammar as
- *     that expression and as no other. That is proved too. Sound leaves out a few shapes that are misread under any settings, among
- *     them minus over --a, which is printed as ---a, minus over a negative IntConst, --1, and a field of an IntConst, 1.lf.
- *   - Without these spaces (GLSL_TIGHT) signs can meet: n - --k is printed as n---k, which is read as n-- - k. glsl_joined tells
- *     beforehand whether signs meet somewhere, or a dot and a whole number. That texts without these spaces are read as they were
- *     meant otherwise is not proved.
- *   - Of units nothing is promised but their text. No braces are added: an if without an else that is the first statement of an if with
- *     one takes that else when it is read, under any settings (docs/DIFFERENCES.md, "Dangling else").
+ *   - With the needed spaces (settings byte 21, as in GLSL_EXPORT) or spaces around operators (byte 12, as in GLSL_OPEN) the text of a
+ *     sound expression is read by GLSL 4.60's grammar as that expression and as no other. That is proved too. Sound leaves out a few
+ *     shapes that are misread under any settings, among them a negative IntConst: -1 is read as minus over 1. With byte 21 at 0 it
+ *     also leaves out minus over --a, which is then printed as ---a, plus over ++a, and a field of an IntConst, 1.lf.
+ *   - With neither (GLSL_TIGHT) signs can meet: n - --k is printed as n---k, which is read as n-- - k. glsl_joined tells beforehand
+ *     whether signs meet somewhere, or a dot and a whole number. That such texts are read as they were meant otherwise is not proved.
+ *   - Of units nothing is promised but their text, in which every expression has its spaces. No braces are added: an if without an
+ *     else that is the first statement of an if with one takes that else when it is read, under any settings (docs/DIFFERENCES.md,
+ *     "Dangling else").
  *
  * Owed by the caller:
  *   - Each pointer is valid for the length behind it, and is not null, even if that length is 0.
@@ -54,14 +55,15 @@ int64_t glsl_print_expr(const uint8_t *settings, size_t settings_length,
  *   - a unary + or - has an operand without brackets whose text begins with the same sign: `---a` for minus over --a, `--1` for minus
  *     over the IntConst -1;
  *   - a Dot stands directly over an IntConst: `1.lf`.
- * The two signs, or number and dot, are then read as one token. Spaces around operators (settings byte 12) keep the first sort apart;
- * the other two are printed so under all settings (they are not sound). The answer is 1 or 0, or a refusal with a number of 2 to 12. */
+ * The two signs, or number and dot, are then read as one token. The needed spaces (settings byte 21, as in GLSL_EXPORT) keep all three
+ * sorts apart, and where they are on there is no need to ask; spaces around operators (byte 12) by themselves keep the first sort apart.
+ * The answer is 1 or 0, or a refusal with a number of 2 to 12. */
 int64_t glsl_joined(const uint8_t *records, size_t records_length, const uint8_t *names, size_t names_length);
 
 /* Why there is no answer. Behind each: the place that goes with it. A record's place is its index, from 0. */
 enum glsl_refusal {
     GLSL_NOT_REFUSED = 0,
-    GLSL_SETTINGS_OUT_OF_RANGE = 1, /* settings not 21 bytes, or a byte out of range: 0 */
+    GLSL_SETTINGS_OUT_OF_RANGE = 1, /* settings neither 21 nor 22 bytes, or a byte out of range: 0 */
     GLSL_RECORDS_OUT_OF_SIZE = 2,   /* records empty, not whole, or above 4,096: 0 */
     GLSL_NAMES_OUT_OF_SIZE = 3,     /* names above 32,768 bytes: 0 */
     GLSL_RECORD_MISSING = 4,        /* a record is expected, none is left: the number of records */
@@ -96,12 +98,19 @@ static inline size_t glsl_refusal_place(int64_t answer)
     return answer < 0 ? (uint32_t)(0 - (uint64_t)answer) : 0;
 }
 
-enum { GLSL_SETTINGS_LENGTH = 21 };
+/* The length of GLSL_TIGHT and GLSL_OPEN, and that of GLSL_EXPORT. */
+enum { GLSL_SETTINGS_LENGTH = 21, GLSL_EXPORT_LENGTH = 22 };
+
+/* The first two arguments of a print: one of the settings below, or another array (no pointer), and its length. */
+#define GLSL_SETTINGS(record) (record), sizeof(record)
+
+/* For exports: GLSL_TIGHT with the needed spaces (byte 21), one where two tokens would be read as one and nowhere else: n- --k, - --a,
+ * 1 .x. Sound expressions are read as they were meant, so there is no need to ask glsl_joined. Pass all 22 bytes, as
+ * GLSL_SETTINGS(GLSL_EXPORT) does: the first 21 (GLSL_SETTINGS_LENGTH) are GLSL_TIGHT, and no refusal tells. */
+static const uint8_t GLSL_EXPORT[GLSL_EXPORT_LENGTH] = {0, 0, 0, 0, 0, 0, 0, 0, 0, 0, 0, 0, 0, 0, 0, 0, 0, 0, 0, 0, 0, 1};
 
 /* The least space: none around operators, no line breaks. The text can be read as ANOTHER expression than the tree's, as n---k for
- * n - --k: ask glsl_joined first, and where it answers 1 print with spaces around operators (settings byte 12). They keep a binary
- * operator and its operand apart. No settings keep the other two sorts apart (see glsl_joined): such a tree is not sound, and only
- * another tree helps. See above, "What a text is read as". */
+ * n - --k: use GLSL_EXPORT, or ask glsl_joined first. */
 static const uint8_t GLSL_TIGHT[GLSL_SETTINGS_LENGTH] = {0, 0, 0, 0, 0, 0, 0, 0, 0, 0, 0, 0, 0, 0, 0, 0, 0, 0, 0, 0, 0};
 
 /* For people: spaces around operators, a line for each statement, indents of four spaces. Sound expressions are read as they were meant. */

@@ -8,15 +8,15 @@ import os
 import re
 import sys
 
-# The public calls, by the file that has their contracts (None: every public function of it), what the program `print` writes, and the settings TIGHT and OPEN.
+# The public calls, by the file that has their contracts (None: every public function of it), what the program `print` writes, and the settings TIGHT, OPEN and EXPORT.
 CALLS = {
     "crates/glsl/src/lib.rt": None,
     "crates/records/src/lib.rt": ["name"],
     "crates/print/src/main.rt": ["answer"],
-    "crates/settings/src/lib.rt": ["read", "tight", "open", "to_bytes"],
+    "crates/settings/src/lib.rt": ["read", "tight", "open", "export", "to_bytes"],
 }
-# Promise 3, about the words of GLSL, those of the preprocessor, and those of any language between (crates/reading/proofs/Demand3.antt).
-PROMISE_3 = [("reading", "Demand3", "Demand3"), ("lexis", "Glsl", "glsl-word"), ("lexis", "Preprocessing", "Between")]
+# Promise 3, and what it was before #106, about the words of GLSL, those of the preprocessor, and those of any language between (crates/reading/proofs/Demand3.antt).
+PROMISE_3 = [("reading", "Demand3", "Demand3"), ("reading", "Demand3", "Demand3-of-00"), ("lexis", "Glsl", "glsl-word"), ("lexis", "Preprocessing", "Between")]
 
 IMPORT = re.compile(r"^\s*(?:ghost |unfoldable |pub )*use Rattle·(\w+)(?:·specs)?\.specs\.([\w.-]+?)(?:\.\{(.*)\})?(?: as (\S+?))?;?$")
 WORDS = re.compile(r"[^\s(){}\[\],;]+")

@@ -15,6 +15,7 @@ shown rust | cmp - rust/glsl_print/examples/expression.rs
 cat > "$scratch/c" <<'LINES'
 OPEN: n - --k
 TIGHT: n---k
+EXPORT: n- --k
 joined: yes
 OPEN in 6 bytes: refused 13 at 7
 LINES

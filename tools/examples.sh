@@ -1,7 +1,7 @@
 #!/bin/sh
-# Prints each examples/NAME.txt by the program `print` under OPEN and TIGHT and compares with NAME.open.glsl and NAME.tight.glsl; with --write it writes these.
-# The sample that the program has in its own folder (crates/print/data) must be what examples/shader.txt makes. ./shader is tried with a text that is printed and with one
-# that is refused.
+# Prints each examples/NAME.txt by the program `print` under OPEN, TIGHT and EXPORT and compares with NAME.open.glsl, NAME.tight.glsl and NAME.export.glsl; with --write
+# it writes these. The sample that the program has in its own folder (crates/print/data) must be what examples/shader.txt makes. ./shader is tried with texts that are
+# printed, under each of these settings, and with one that is refused.
 set -eu
 root=$(cd "$(dirname "$0")/.." && pwd -P)
 folder=$(mktemp -d)
@@ -42,6 +42,10 @@ for example in "$root"/examples/*.txt; do
     head -c 21 /dev/zero >"$folder/settings.rec"
     printed "$example"
     settle "${example%.txt}.tight.glsl"
+    # EXPORT is TIGHT and a byte of 1.
+    printf '\001' >>"$folder/settings.rec"
+    printed "$example"
+    settle "${example%.txt}.export.glsl"
     count=$((count + 1))
 done
 
@@ -54,4 +58,6 @@ if [ "$status $(cat "$folder/text")" != "1 refused 11 at 1" ] || ! grep -q '^lin
     exit 1
 fi
 "$root/shader" "$root/examples/tiling.txt" | cmp - "$root/examples/tiling.open.glsl"
-echo "examples: $count trees, each printed in OPEN and TIGHT; ./shader, tried with a good and a bad one"
+"$root/shader" --export "$root/examples/tiling.txt" | cmp - "$root/examples/tiling.export.glsl"
+"$root/shader" --tight | cmp - "$root/examples/shader.tight.glsl"
+echo "examples: $count trees, each printed in OPEN, TIGHT and EXPORT; ./shader, tried with good ones and a bad one"

@@ -6,8 +6,9 @@ Outside the gate: it needs Debian's glslang-tools besides the kit. Two parts, wi
     sound   any sound expressions (document 01); glslang must find no syntax error. It checks types and names too, and these are of no type: such errors are counted.
     typed   sound expressions over int and bool; they must compile, and the tree that glslang shows must be the tree that was grown.
 
-They stand in the main functions of units, which are printed under OPEN and two other settings with spaces around binary operators. Each part first tries a case that
-must fail. Ends with 1 if anything failed, 2 if there is no glslangValidator."""
+They stand in the main functions of units, which are printed under OPEN and two other settings with spaces around binary operators. Then each part comes again, with
+settings that ask for needed spaces (byte 21; document 02, #106): EXPORT, OPEN with that byte, and two others. There minus over Dec, plus over Inc and Dot over an
+IntConst are sound too. Each part first tries a case that must fail. Ends with 1 if anything failed, 2 if there is no glslangValidator."""
 import collections
 import os
 import random
@@ -25,12 +26,17 @@ READER = "glslangValidator"
 OPEN = bytes([2, 4, 1, 1, 1, 1, 1, 1, 2, 2, 2, 2, 1, 2, 2, 0, 1, 1, 1, 1, 1])
 GREATEST = bytes([2, 16, 1, 1, 1, 1, 1, 1, 2, 2, 2, 2, 1, 2, 2, 1, 1, 1, 1, 1, 1])
 OPERATOR_SPACES = 12
+# A byte 21 of 1 asks for needed spaces. EXPORT is TIGHT with it.
+NEEDED_SPACES = b"\1"
+EXPORT = print_runs.TIGHT + NEEDED_SPACES
 
 VARIABLE, INT, UINT, BOOL, FLOAT, DOUBLE, UNARY, BINARY, TERNARY, ASSIGNMENT, BRACKET, CALL, DOT, POST_INC, POST_DEC, COMMA = range(1, 17)
 TYPE, KEYWORD, TYPE_NAME, ARRAY, DIMENSION = 20, 21, 22, 24, 25
 UNARY_OPERATORS, BINARY_OPERATORS, ASSIGNMENT_OPERATORS = range(6), range(19), range(11)
 INC, DEC, PLUS, MINUS, NOT, COMPLEMENT = UNARY_OPERATORS
 ADD, SUBTRACT = 14, 15
+# Unary operators over one another that are sound only with needed spaces.
+ONLY_SPACED = {(MINUS, DEC), (PLUS, INC)}
 
 TYPE_WORDS = (
     "void bool int uint float double vec2 vec3 vec4 dvec2 dvec3 dvec4 bvec2 bvec3 bvec4 ivec2 ivec3 ivec4 uvec2 uvec3 uvec4 mat2 mat3 mat4 mat2x2 mat2x3 mat2x4 "
@@ -136,12 +142,19 @@ def filled(grow, declarations, most):
     return expressions
 
 
-def settings_of_run(dice):
-    """OPEN, and two others with spaces around binary operators."""
+def settings_of_run(dice, spaced):
+    """OPEN, and two others with spaces around binary operators; or EXPORT, OPEN and two others, all with needed spaces."""
     others = [bytearray(dice.randint(0, greatest) for greatest in GREATEST) for _ in range(2)]
+    if spaced:
+        return [EXPORT, *(bytes(settings) + NEEDED_SPACES for settings in [OPEN, *others])]
     for other in others:
         other[OPERATOR_SPACES] = 1
     return [OPEN, *map(bytes, others)]
+
+
+def open_settings(spaced):
+    """OPEN, with needed spaces or without."""
+    return OPEN + NEEDED_SPACES if spaced else OPEN
 
 
 def asked(text, *options):
@@ -151,10 +164,10 @@ def asked(text, *options):
 
 
 class Grower:
-    """What both growers have: dice, and trees that are at times as deep as they can be."""
+    """What both growers have: dice, whether texts will have needed spaces, and trees that are at times as deep as they can be."""
 
-    def __init__(self, dice):
-        self.dice, self.deep = dice, False
+    def __init__(self, dice, spaced):
+        self.dice, self.spaced, self.deep = dice, spaced, False
 
     def case(self):
         """An expression that fits into a statement of main, which is at depth 4. The number of its nodes is only aimed at."""
@@ -164,6 +177,14 @@ class Grower:
             if depth(expression) <= print_runs.DEEPEST - print_runs.STATEMENT:
                 return expression
 
+    def unary_operator(self, operators, operand):
+        """One of the operators that a sound expression may have over an operand. With needed spaces all may be, and those that only these allow are preferred."""
+        below = operand.variant if operand.kind == UNARY else None
+        only_spaced = [operator for operator in operators if (operator, below) in ONLY_SPACED]
+        if self.spaced:
+            return self.dice.choice(only_spaced or operators)
+        return self.dice.choice([operator for operator in operators if operator not in only_spaced])
+
     def sizes(self, total, parts):
         """Random sizes of so many parts, each at least 1, of a total."""
         cuts = sorted(self.dice.sample(range(1, total), parts - 1))
@@ -171,6 +192,13 @@ class Grower:
             first = self.dice.randrange(parts)
             cuts = [*range(1, first + 1), *range(total - parts + first + 1, total)]
         return [end - start for start, end in zip([0, *cuts], [*cuts, total])]
+
+
+def only_spaced(node):
+    """How many parts of an expression only needed spaces allow."""
+    child = node.children[0] if node.children else node
+    here = node.kind == UNARY and child.kind == UNARY and (node.variant, child.variant) in ONLY_SPACED or node.kind == DOT and child.kind == INT
+    return here + sum(map(only_spaced, node.children))
 
 
 def pick(dice, usual, rare):
@@ -209,17 +237,12 @@ LEAVES = range(VARIABLE, UNARY)
 # The fewest nodes of an expression of each other kind, and how often it is taken.
 FEWEST = {UNARY: 2, BINARY: 3, TERNARY: 4, ASSIGNMENT: 3, BRACKET: 3, CALL: 2, DOT: 2, POST_INC: 2, POST_DEC: 2, COMMA: 3}
 WEIGHT = {UNARY: 3, BINARY: 5, TERNARY: 2, ASSIGNMENT: 2, BRACKET: 2, CALL: 3, DOT: 1, POST_INC: 1, POST_DEC: 1, COMMA: 1}
-# What a sound expression may not have there (document 01): as a Dot's operand, as an assignment's target, as a sized dimension, as an argument.
-NO_OPERAND_OF_DOT = {INT, UINT, FLOAT, DOUBLE}
+# What a sound expression may not have there (document 01): as a Dot's operand, without needed spaces and with them, as an assignment's target, as a sized
+# dimension, as an argument.
+NO_OPERAND_OF_DOT = {INT, UINT, FLOAT, DOUBLE}, {UINT, FLOAT, DOUBLE}
 NO_TARGET = {BINARY, TERNARY, ASSIGNMENT, COMMA}
 NO_DIMENSION = {ASSIGNMENT, COMMA}
 NO_ARGUMENT = {COMMA}
-
-
-def unary_operator(dice, operators, operand):
-    """One of the operators that a sound expression may have over an operand."""
-    below = operand.variant if operand.kind == UNARY else None
-    return dice.choice([operator for operator in operators if (operator, below) not in {(MINUS, DEC), (PLUS, INC)}])
 
 
 class Sound(Grower):
@@ -237,9 +260,9 @@ class Sound(Grower):
             return self.call(size)
         if kind == UNARY:
             operand = self.expression(size - 1)
-            return Node(UNARY, unary_operator(self.dice, UNARY_OPERATORS, operand), (operand,))
+            return Node(UNARY, self.unary_operator(UNARY_OPERATORS, operand), (operand,))
         if kind in (DOT, POST_INC, POST_DEC):
-            operand = self.expression(size - 1, NO_OPERAND_OF_DOT if kind == DOT else ())
+            operand = self.expression(size - 1, NO_OPERAND_OF_DOT[self.spaced] if kind == DOT else ())
             return Node(kind, 0, (operand,), self.dice.choice(FIELDS) if kind == DOT else "")
         parts = self.sizes(size - 1, 3 if kind == TERNARY else 2)
         children = tuple(self.expression(part, NO_TARGET if kind == ASSIGNMENT and i == 0 else ()) for i, part in enumerate(parts))
@@ -280,11 +303,11 @@ def unsized(text):
 
 
 def misread(text):
-    """Whether glslang's scanner is known to misread an expression. Behind a type word but atomic_uint, up to the next `(`, `)` or `,`, it takes a struct's name for
+    """Whether glslang's scanner is known to misread an expression. Behind a type word but atomic_uint, up to the next `(`, `)`, `,` or `=`, it takes a struct's name for
     an identifier, which can't have an unsized dimension: "syntax error, unexpected RIGHT_BRACKET". The smallest such texts are `int[T[]()]()` and, since type
     words of extensions count, even as fields, `int64_t * T[]()` and `a.int64_t * T[]()`. Chapter 9 reads all of them."""
     behind_type = False
-    for match in re.finditer(r"(\.?)\b([A-Za-z_]\w*)|[(),]", text):
+    for match in re.finditer(r"(\.?)\b([A-Za-z_]\w*)|[(),]| = ", text):
         field, word = match.groups()
         if word in STRUCTS and not field:
             if behind_type and unsized(text[match.end() :]):
@@ -319,40 +342,56 @@ def blame(program, expressions, settings, wrong):
             break
 
 
-def without_misread(program, grown):
+def without_misread(program, grown, settings):
     """The expressions without those that glslang's scanner misreads. Each of these must be a syntax error to it, so that no other is left out."""
     kept = []
-    for expression, text in zip(grown, statements(printed(program, DECLARED, grown, OPEN))):
+    for expression, text in zip(grown, statements(printed(program, DECLARED, grown, settings))):
         if not misread(text):
             kept.append(expression)
-        elif "syntax error" not in flaw(program, [expression], OPEN)[0]:
+        elif "syntax error" not in flaw(program, [expression], settings)[0]:
             sys.exit(f"glslang: sound: left out without need: {text}")
     return kept
 
 
-def part_sound(program, seed, cases):
+def plant(program, expressions, settings):
+    """Ends the program unless glslang finds a syntax error behind expressions, whose errors must not end the reading."""
+    planted = Node(ASSIGNMENT, 0, (Node(BINARY, ADD, (variable("a"), variable("b"))), variable("a")))
+    if "syntax error" not in flaw(program, [*expressions, planted], settings)[0]:
+        sys.exit("glslang: sound: the planted syntax error `a + b = a` was not found")
+    dot = Node(DOT, 0, (constant(1),), "x")
+    if "syntax error" not in flaw(program, [dot], OPEN)[0] or flaw(program, [dot], EXPORT)[0]:
+        sys.exit("glslang: sound: the Dot over 1 must be a syntax error under OPEN, `1.x`, and none under EXPORT, `1 .x`")
+
+
+def part_sound(program, seed, cases, spaced):
     """Part 1; whether all went well."""
     dice, count = random.Random(f"{seed} sound"), collections.Counter()
-    grower = Sound(dice)
+    grower = Sound(dice, spaced)
     while count["expressions"] < cases:
         grown = filled(grower.case, DECLARED, cases - count["expressions"])
-        expressions = without_misread(program, grown)
+        expressions = without_misread(program, grown, open_settings(spaced))
         if not count["shaders"]:
-            # It stands behind all others, whose errors must not end the reading.
-            planted = Node(ASSIGNMENT, 0, (Node(BINARY, ADD, (variable("a"), variable("b"))), variable("a")))
-            if "syntax error" not in flaw(program, [*expressions, planted], OPEN)[0]:
-                sys.exit("glslang: sound: the planted syntax error `a + b = a` was not found")
-        for settings in settings_of_run(dice):
+            plant(program, expressions, open_settings(spaced))
+        for settings in settings_of_run(dice, spaced):
             wrong, errors = flaw(program, expressions, settings)
             count.update({"shaders": 1, "flaws": bool(wrong), "errors": errors})
             if wrong:
                 blame(program, expressions, settings, wrong)
-        count.update({"expressions": len(expressions), "left out": len(grown) - len(expressions)})
+        count.update({"expressions": len(expressions), "left out": len(grown) - len(expressions), "only spaced": sum(map(bool, map(only_spaced, expressions)))})
     print(
-        f"glslang: sound: {count['expressions']} expressions in {count['shaders']} shaders, {count['flaws']} syntax errors, "
+        f"glslang: sound{manner(spaced)}: {count['expressions']} expressions{told(count, spaced)} in {count['shaders']} shaders, {count['flaws']} syntax errors, "
         f"{count['errors']} errors of types and names; {count['left out']} left out, which glslang's scanner misreads"
     )
     return not count["flaws"]
+
+
+def manner(spaced):
+    return " with needed spaces" if spaced else ""
+
+
+def told(count, spaced):
+    """How many expressions only needed spaces allow."""
+    return f", {count['only spaced']} of them sound only so," if spaced else ""
 
 
 # Part 2: typed expressions, and the trees that glslang shows
@@ -381,9 +420,14 @@ ASSIGNMENT_NAMES += [name + " second child into first child" for name in "multip
 OTHER_NAMES = {TERNARY: "Test condition and select", POST_INC: "Post-Increment", POST_DEC: "Post-Decrement", COMMA: "Comma"}
 
 
+def without_trace(node):
+    """Whether glslang leaves a node out: a unary plus, and the field of an int, which is that int."""
+    return node.kind == UNARY and node.variant == PLUS or node.kind == DOT and node.children[0].kind == INT
+
+
 def folded(node):
-    """Whether glslang sees a constant: a literal, also below pluses."""
-    return node.kind in (INT, BOOL) or node.kind == UNARY and node.variant == PLUS and folded(node.children[0])
+    """Whether glslang sees a constant: a literal, also below what it leaves out."""
+    return node.kind in (INT, BOOL) or without_trace(node) and folded(node.children[0])
 
 
 class Typed(Grower):
@@ -405,7 +449,10 @@ class Typed(Grower):
     def leaf(self, word, _size=1):
         if word in WHOLES or self.dice.random() < 0.7:
             return variable(self.dice.choice(VARIABLES[word]))
-        return Node(BOOL, self.dice.randrange(2)) if word == "bool" else constant(self.dice.choice(NUMBERS))
+        if word == "bool":
+            return Node(BOOL, self.dice.randrange(2))
+        number = constant(self.dice.choice(NUMBERS))
+        return Node(DOT, 0, (number,), "x") if self.spaced and self.dice.random() < 0.5 else number
 
     def operands(self, size, words, without=()):
         """Operands of these types, not all of them constant."""
@@ -432,7 +479,7 @@ class Typed(Grower):
         if word == "bool":
             return Node(UNARY, NOT, self.operands(size, ["bool"]))
         operand = self.expression("int", size - 1)
-        return Node(UNARY, unary_operator(self.dice, [PLUS] if folded(operand) else [PLUS, MINUS, COMPLEMENT], operand), (operand,))
+        return Node(UNARY, self.unary_operator([PLUS] if folded(operand) else [PLUS, MINUS, COMPLEMENT], operand), (operand,))
 
     def step(self, word, size):
         """One of the four ways to count up or down; bools can't."""
@@ -482,8 +529,8 @@ class Typed(Grower):
 
 
 def tree_grown(node):
-    """The tree that glslang must show: names with lists of children. A unary plus leaves no trace."""
-    if node.kind == UNARY and node.variant == PLUS:
+    """The tree that glslang must show: names with lists of children."""
+    if without_trace(node):
         return tree_grown(node.children[0])
     if node.kind == VARIABLE:
         return f"'{node.text}'", []
@@ -542,23 +589,34 @@ def differences(program, expressions, settings):
     return different, len(expressions) - len(different)
 
 
-def part_typed(program, seed, cases):
-    """Part 2; whether all went well."""
-    joined = Node(BINARY, SUBTRACT, (variable("n"), Node(UNARY, DEC, (variable("k"),))))
-    tight = "".join(differences(program, [joined], print_runs.TIGHT)[0])
-    if "shown subtract (Post-Decrement ('n'), 'k')" not in tight or differences(program, [joined], OPEN) != ([], 1):
+def try_joined(program):
+    """Ends the program unless expressions that are joined are misread without needed spaces, and only then."""
+    decrement = Node(UNARY, DEC, (variable("k"),))
+    binary, unary = Node(BINARY, SUBTRACT, (variable("n"), decrement)), Node(UNARY, MINUS, (decrement,))
+    tight = "".join(differences(program, [binary], print_runs.TIGHT)[0])
+    if "shown subtract (Post-Decrement ('n'), 'k')" not in tight or differences(program, [binary], OPEN) != ([], 1):
         sys.exit("glslang: typed: n minus (--k) must be read as it is under OPEN, and under TIGHT, `n---k`, as (n--) minus k")
+    if not differences(program, [unary], OPEN)[0] or differences(program, [binary, unary], EXPORT) != ([], 2):
+        sys.exit("glslang: typed: minus over --k must not be read as it is under OPEN, `---k`, but under EXPORT, `- --k`, as n minus (--k) must")
+
+
+def part_typed(program, seed, cases, spaced):
+    """Part 2; whether all went well."""
+    try_joined(program)
     dice, count = random.Random(f"{seed} typed"), collections.Counter()
-    grower = Typed(dice)
+    grower = Typed(dice, spaced)
     while count["expressions"] < cases:
         expressions = filled(grower.case, TYPED_DECLARED, cases - count["expressions"])
-        for settings in settings_of_run(dice):
+        for settings in settings_of_run(dice, spaced):
             different, equal = differences(program, expressions, settings)
             count.update({"shaders": 1, "equal": equal, "different": len(different)})
             for line in different[:3]:
                 print(f"glslang: typed: settings {settings.hex()}: {line}")
-        count["expressions"] += len(expressions)
-    print(f"glslang: typed: {count['expressions']} expressions in {count['shaders']} shaders, {count['equal']} trees equal, {count['different']} different")
+        count.update({"expressions": len(expressions), "only spaced": sum(map(bool, map(only_spaced, expressions)))})
+    print(
+        f"glslang: typed{manner(spaced)}: {count['expressions']} expressions{told(count, spaced)} in {count['shaders']} shaders, {count['equal']} trees equal, "
+        f"{count['different']} different"
+    )
     return not count["different"]
 
 
@@ -583,7 +641,7 @@ def main():
     version = subprocess.run([READER, "--version"], capture_output=True, text=True, check=True).stdout.split("\n")[0]
     print(f"glslang: {version}; seed {seed}")
     program = built()
-    went_well = [part(program, seed, cases) for part in (part_sound, part_typed)]
+    went_well = [part(program, seed, cases, spaced) for spaced in (False, True) for part in (part_sound, part_typed)]
     sys.exit(not all(went_well))
 
 

@@ -1,8 +1,8 @@
 #!/usr/bin/env python3
 """print_runs.py [PROGRAM]: runs the program `print` (crates/print) in a folder of its own for each line of the tables below, and compares all that it writes.
 
-Without PROGRAM it is proved and built first, and ./shader is run too, with its exit status. The texts and refusals are document 01's ("Calls", "Texts to match");
-none is taken from the program."""
+Without PROGRAM it is proved and built first, and ./shader is run too, with its exit status. The texts and refusals are document 01's ("Calls", "Texts to match")
+and those of request #106; none is taken from the program."""
 import os
 import subprocess
 import sys
@@ -16,12 +16,19 @@ ROOT = os.path.dirname(os.path.dirname(os.path.abspath(__file__)))
 # Document 01's limits.
 MOST_RECORDS, MOST_NAMES, MOST_LETTERS, DEEPEST, ROOM = 4096, 32768, 255, 200, 65536
 
-TIGHT = bytes(21)
+# Settings: document 01's, and TIGHT with byte 21 at 1 (02, #106).
+TIGHT, EXPORT = bytes(21), bytes(21) + b"\1"
+OPEN = bytes([2, 4, 1, 1, 1, 1, 1, 1, 2, 2, 2, 2, 1, 2, 2, 0, 1, 1, 1, 1, 1])
 
 VOID = "31 \n 20 \n 21 \n"
 INT_X = '80 0 1 \n 47 1 \n 42 \n 43 1 0 "x" \n 31 \n 20 \n 21 2'
 FUNCTION = '80 0 1 \n 81 \n 40 0 0 "f" \n' + VOID
-RETURN_MINUS_A = FUNCTION + '60 0 1 \n 68 4 \n 7 3 \n 1 0 0 "a"'
+RETURN = FUNCTION + "60 0 1 \n 68 4 \n"
+RETURN_MINUS_A = RETURN + '7 3 \n 1 0 0 "a"'
+# Returned are n - --k, minus over --a, and the field x of 1.
+RETURN_BINARY = RETURN + '8 15 \n 1 0 0 "n" \n 7 1 \n 1 0 0 "k"'
+RETURN_UNARY = RETURN + '7 3 \n 7 1 \n 1 0 0 "a"'
+RETURN_FIELD = RETURN + '13 0 0 "x" \n 2 0 0 1'
 # A function's body holds statements at depth 4.
 BODY, STATEMENT, EMPTY = "60 0 1 \n", 4, "61"
 
@@ -75,6 +82,14 @@ RUNS = [
     ("a unit of no declarations", tree("80"), ""),
     ("void f in TIGHT", tree(RETURN_MINUS_A, settings_rec=TIGHT), "void f(){return -a;}"),
     ("void f in OPEN", tree(RETURN_MINUS_A), "void f() {\n    return -a;\n}\n"),
+    # The needed spaces of request #106, and texts without them.
+    ("n - --k in TIGHT", tree(RETURN_BINARY, settings_rec=TIGHT), "void f(){return n---k;}"),
+    ("n - --k in EXPORT", tree(RETURN_BINARY, settings_rec=EXPORT), "void f(){return n- --k;}"),
+    ("n - --k in OPEN with byte 21", tree(RETURN_BINARY, settings_rec=OPEN + b"\1"), "void f() {\n    return n - --k;\n}\n"),
+    ("minus over --a in EXPORT", tree(RETURN_UNARY, settings_rec=EXPORT), "void f(){return - --a;}"),
+    ("minus over --a in OPEN", tree(RETURN_UNARY, settings_rec=OPEN), "void f() {\n    return ---a;\n}\n"),
+    ("minus over --a in OPEN with byte 21", tree(RETURN_UNARY, settings_rec=OPEN + b"\1"), "void f() {\n    return - --a;\n}\n"),
+    ("a field of 1 in EXPORT", tree(RETURN_FIELD, settings_rec=EXPORT), "void f(){return 1 .x;}"),
     # Files that are missing, or empty.
     ("no file", {}, "refused 2 at 0\n"),
     ("no tree.rec", tree(INT_X, tree_rec=None), "refused 2 at 0\n"),
@@ -84,8 +99,10 @@ RUNS = [
     ("an empty settings.rec", tree(INT_X, settings_rec=b""), "refused 1 at 0\n"),
     # A byte more than each file may have; the greatest that it may have.
     ("settings of 20 bytes", tree(INT_X, settings_rec=TIGHT[1:]), "refused 1 at 0\n"),
-    ("settings of 22 bytes", tree(INT_X, settings_rec=TIGHT + b"\0"), "refused 1 at 0\n"),
+    ("settings of 22 bytes", tree(RETURN_BINARY, settings_rec=TIGHT + b"\0"), "void f(){return n---k;}"),
     ("settings of 23 bytes", tree(INT_X, settings_rec=TIGHT + b"\0\0"), "refused 1 at 0\n"),
+    ("settings of 24 bytes", tree(INT_X, settings_rec=TIGHT + b"\0\0\0"), "refused 1 at 0\n"),
+    ("settings of 65,536 bytes", tree(INT_X, settings_rec=bytes(65536)), "refused 1 at 0\n"),
     ("4,096 records", empty_statements(MOST_RECORDS), "void f(){" + ";" * (MOST_RECORDS - 7) + "}"),
     ("4,096 records and a byte", {**empty_statements(MOST_RECORDS), "tree_rec": empty_statements(MOST_RECORDS)["tree_rec"] + b"\0"}, "refused 2 at 0\n"),
     ("4,097 records", empty_statements(MOST_RECORDS + 1), "refused 2 at 0\n"),
@@ -95,6 +112,8 @@ RUNS = [
     ("65,536 bytes of names", tree(INT_X, names_txt=b"x" * (2 * MOST_NAMES)), "refused 3 at 0\n"),
     # Each refusal, in document 01's order.
     ("1: a byte out of range", tree(INT_X, settings_rec=changed(TIGHT, 1, 17)), "refused 1 at 0\n"),
+    ("1: byte 21 out of range", tree(INT_X, settings_rec=TIGHT + b"\2"), "refused 1 at 0\n"),
+    ("1: another byte out of range, of 22", tree(INT_X, settings_rec=changed(EXPORT, 1, 17)), "refused 1 at 0\n"),
     ("1 before 2", {"settings_rec": b"\3" + TIGHT[1:]}, "refused 1 at 0\n"),
     ("2: records that are not whole", tree(INT_X, tree_rec=records.read(INT_X)[0][:-1]), "refused 2 at 0\n"),
     ("2 before 3", {"names_txt": b"x" * (MOST_NAMES + 1)}, "refused 2 at 0\n"),
@@ -119,18 +138,33 @@ RUNS = [
     ("a text far above the room", invariant(*[MOST_LETTERS] * 4000), f"refused 13 at {4000 * (LINE + MOST_LETTERS)}\n"),
 ]
 
-# What ./shader is given (an option, or a folder with these files), its exit status, and what it writes to stdout. A text may begin with the name `refused`.
-USAGE = "usage: ./shader [FILE or FOLDER]\n"
+# What ./shader is given: options, and a folder with these files if there are any; its exit status; what it writes to stdout, of help the first line. A text may begin
+# with the name `refused`. FOLDER in an option is that folder.
+USAGE = "usage: ./shader [--tight | --export | --settings RECORD] [FILE or FOLDER]\n"
 REFUSED_AT = '80 0 1 \n 47 1 \n 42 \n 43 1 0 "at" \n 31 \n 20 \n 22 0 0 "refused"'
+OTHER = ["--settings", "FOLDER/other.rec"]
 SHADER_RUNS = [
-    ("a folder", tree(RETURN_MINUS_A), 0, "void f() {\n    return -a;\n}\n"),
-    ("a folder that is refused", tree('80 0 1 \n 1 0 0 "x"'), 1, "refused 5 at 1\n"),
-    ("an empty folder", {}, 1, ""),
-    ("a text that begins as a refusal does", tree(REFUSED_AT), 0, "refused at;"),
-    ("a text of nothing", tree("80"), 0, ""),
-    ("help", "--help", 0, USAGE),
-    ("help, in short", "-h", 0, USAGE),
-    ("an option that there is not", "--none", 2, ""),
+    ("a folder", [], tree(RETURN_MINUS_A), 0, "void f() {\n    return -a;\n}\n"),
+    ("a folder that is refused", [], tree('80 0 1 \n 1 0 0 "x"'), 1, "refused 5 at 1\n"),
+    ("an empty folder", [], {}, 1, ""),
+    ("a text that begins as a refusal does", [], tree(REFUSED_AT), 0, "refused at;"),
+    ("a text of nothing", [], tree("80"), 0, ""),
+    ("a folder with settings", [], tree(RETURN_BINARY, settings_rec=EXPORT), 0, "void f(){return n- --k;}"),
+    ("a folder, tight", ["--tight"], tree(RETURN_BINARY), 0, "void f(){return n---k;}"),
+    ("a folder, as an export", ["--export"], tree(RETURN_BINARY), 0, "void f(){return n- --k;}"),
+    ("a folder with settings, others asked for", ["--tight"], tree(RETURN_BINARY, settings_rec=EXPORT), 0, "void f(){return n---k;}"),
+    ("a folder without names, tight", ["--tight"], tree("80", names_txt=None), 0, ""),
+    ("a folder and settings of another file", OTHER, tree(RETURN_UNARY, other_rec=OPEN + b"\1"), 0, "void f() {\n    return - --a;\n}\n"),
+    ("a folder and bad settings", OTHER, tree(RETURN_UNARY, other_rec=TIGHT + b"\2"), 1, "refused 1 at 0\n"),
+    ("a folder and settings of no file", OTHER, tree(RETURN_UNARY), 1, ""),
+    ("an empty folder, tight", ["--tight"], {}, 1, ""),
+    ("settings without a file", ["--settings"], None, 2, ""),
+    ("two options for settings", ["--tight", "--export"], tree(INT_X), 2, ""),
+    ("two options for settings, one of a file", ["--export", *OTHER], tree(INT_X, other_rec=TIGHT), 2, ""),
+    ("two folders", ["FOLDER"], tree(INT_X), 2, ""),
+    ("help", ["--help"], None, 0, USAGE),
+    ("help, in short", ["-h"], None, 0, USAGE),
+    ("an option that there is not", ["--none"], None, 2, ""),
 ]
 
 
@@ -150,15 +184,24 @@ def written(program, files):
         return run.stdout if run.returncode == 0 and not run.stderr else f"status {run.returncode}: {run.stderr!r}".encode()
 
 
-def shader(given):
-    """The exit status of ./shader and what it writes to stdout; of help the first line."""
+def shader(options, files):
+    """The exit status of ./shader and what it writes to stdout; of help the first line. The folder must stay as it was."""
     with tempfile.TemporaryDirectory() as folder:
-        if not isinstance(given, str):
-            fill(folder, given)
-        argument = given if isinstance(given, str) else folder
-        run = subprocess.run([os.path.join(ROOT, "shader"), argument], stdin=subprocess.DEVNULL, capture_output=True, check=False)
-        text = run.stdout.decode()
-        return run.returncode, text[: len(USAGE)] if isinstance(given, str) else text
+        fill(folder, files or {})
+        before = listing(folder)
+        arguments = [option.replace("FOLDER", folder) for option in options] + ([folder] if files is not None else [])
+        run = subprocess.run([os.path.join(ROOT, "shader"), *arguments], stdin=subprocess.DEVNULL, capture_output=True, check=False)
+        text = run.stdout.decode() if listing(folder) == before else "the folder was altered"
+        return run.returncode, text if files is not None else text[: len(USAGE)]
+
+
+def listing(folder):
+    """The names and bytes of a folder's files."""
+    found = {}
+    for name in os.listdir(folder):
+        with open(os.path.join(folder, name), "rb") as file:
+            found[name] = file.read()
+    return found
 
 
 def shown(data):
@@ -184,8 +227,8 @@ def main():
 def shader_runs():
     """Runs ./shader; answers how many runs failed."""
     failed = 0
-    for name, given, status, text in SHADER_RUNS:
-        found = shader(given)
+    for name, options, files, status, text in SHADER_RUNS:
+        found = shader(options, files)
         if found != (status, text):
             failed += 1
             print(f"print_runs: ./shader, {name}\n    expected {(status, text)}\n    found    {found}")

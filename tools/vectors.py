@@ -2,22 +2,24 @@
 """vectors.py FILE [COUNT [KEPT]]: writes crates/vectors/proofs from the oracle's answers in FILE, as theorems by computation about the definition of the
 text. What stands there was made, from the repository's root, by
 
-    oracle/target/release/oracle vectors 1 6000 > target/lines && python3 tools/vectors.py target/lines 300 tools/kept-vectors.txt
+    oracle/target/release/oracle vectors 1 6000 > target/lines && python3 tools/vectors.py target/lines 286 tools/kept-vectors.txt
 
 vectors.py --lines: prints the vectors of crates/vectors/proofs again as lines of the oracle, for `oracle check`.
 
 A line is: Expr or Unit, then settings, records, names and text in hex (`-` for none), then the answer to the joined question (0, 1; 2: a unit, of which
-it is not asked). The texts are the Rust module's (000), the joined answers the oracle's own.
-Of FILE's lines so many are taken as COUNT says (300): some joined expressions, then always the line that shows most for its length that none before has
-shown (kinds with variants, neighbouring kinds, settings values). All lines of KEPT are taken besides: cases that someone looked for, because
-wrong definitions agreed with all others."""
+it is not asked). The texts are the Rust module's (000), where byte 21 of the settings is 1 those of the oracle's second printer; the joined answers are the
+oracle's own. Of FILE's lines so many are taken as COUNT says (300): some joined expressions, without needed spaces and with them, some units with them, then
+always the line that shows most for its length that none before has shown (kinds with variants, neighbouring kinds, settings values). All lines of KEPT are
+taken besides: cases that someone looked for, because wrong definitions agreed with all others or document 02 names them."""
 import glob
 import os
 import re
 import sys
 
 PER_MODULE = 25
-JOINED = 25
+JOINED = 20
+SPACED = 14
+SPACED_UNITS = 8
 FOLDER = "crates/vectors/proofs"
 
 
@@ -43,9 +45,17 @@ def shown(vector):
     return {("kind", k, v) for k, v in kinds} | {("pair", a, b) for a, b in pairs} | {("setting", i, b) for i, b in enumerate(settings)}
 
 
+def is_spaced(vector):
+    """Whether byte 21 of the settings is 1 and the text has spaces where signs, or an int and a dot, would meet."""
+    _, settings, _, _, text, _ = vector
+    return settings[21:] == b"\1" and re.search(rb"- -|\+ \+|\d \.", text) is not None
+
+
 def chosen(vectors, count):
     vectors = sorted(set(vectors), key=lambda v: (len(v[2]) + len(v[3]), v))
-    kept = [v for v in vectors if v[5] == "1"][:JOINED]
+    spaced = [v for v in vectors if is_spaced(v)]
+    kept = [v for v in vectors if v[5] == "1" and v not in spaced][:JOINED]
+    kept += [v for v in spaced if v[5] == "1"][:SPACED] + [v for v in spaced if v[0] == "Unit"][:SPACED_UNITS]
     seen = set().union(*map(shown, kept))
     left = {v: shown(v) for v in vectors if v not in kept}
     while left and len(kept) < count:
@@ -63,7 +73,7 @@ def quoted(data):
 
 def module(first, vectors):
     lines = [
-        "-- Texts of the Rust module. Made by tools/vectors.py. Assumes nothing.",
+        "-- Texts of the Rust module and of the oracle's second printer. Made by tools/vectors.py. Assumes nothing.",
         "use mathlib.Core.Path.{refl}",
         "use Rattle.text.specs.Case.{defined}",
         "use Rattle.text.proofs.Computing.{computing}",

@@ -1,4 +1,4 @@
-/* Prints n - --k, which once left the desk as n---k: readers take that for n-- - k. */
+/* Prints n - --k, which once left the desk as n---k: readers take that for n-- - k. EXPORT keeps the space that is needed. */
 #include "glsl_print.h"
 
 #include <stdio.h>
@@ -12,10 +12,10 @@ static const uint8_t records[] = {
 };
 static const uint8_t names[] = {'n', 'k'};
 
-static void show(const char *title, const uint8_t *settings, size_t room_length)
+static void show(const char *title, const uint8_t *settings, size_t settings_length, size_t room_length)
 {
     uint8_t room[64];
-    int64_t answer = glsl_print_expr(settings, GLSL_SETTINGS_LENGTH, records, sizeof records, names, sizeof names,
+    int64_t answer = glsl_print_expr(settings, settings_length, records, sizeof records, names, sizeof names,
                                      room, room_length);
     if (glsl_is_refusal(answer)) {
         printf("%s: refused %d at %zu\n", title, glsl_refusal_number(answer), glsl_refusal_place(answer));
@@ -26,9 +26,10 @@ static void show(const char *title, const uint8_t *settings, size_t room_length)
 
 int main(void)
 {
-    show("OPEN", GLSL_OPEN, 64);
-    show("TIGHT", GLSL_TIGHT, 64);
+    show("OPEN", GLSL_SETTINGS(GLSL_OPEN), 64);
+    show("TIGHT", GLSL_SETTINGS(GLSL_TIGHT), 64);
+    show("EXPORT", GLSL_SETTINGS(GLSL_EXPORT), 64);
     printf("joined: %s\n", glsl_joined(records, sizeof records, names, sizeof names) == 1 ? "yes" : "no");
-    show("OPEN in 6 bytes", GLSL_OPEN, 6); /* GLSL_ROOM_TOO_SMALL; its place is the length needed */
+    show("OPEN in 6 bytes", GLSL_SETTINGS(GLSL_OPEN), 6); /* GLSL_ROOM_TOO_SMALL; its place is the length needed */
     return 0;
 }

@@ -1,11 +1,12 @@
-//! Questions and answers: what each of document 01's calls gives, with the Rust module as the printer.
+//! Questions and answers: what each of document 01's calls gives, with the Rust module as the printer; where needed spaces are
+//! asked for, with the second printer.
 
 use crate::joined::is_joined;
-use crate::print;
+use crate::line;
 use crate::read::{self, Whole};
 use crate::refusal::Refusal;
-use crate::settings;
-use glsl_lang::transpiler::glsl::FormattingSettings;
+use crate::settings::{self, Settings};
+use crate::spaced::{self, Spaced};
 
 /// Which call is asked.
 #[derive(Clone, Copy, Debug, PartialEq, Eq)]
@@ -45,33 +46,43 @@ pub enum Outcome<T> {
 pub struct Answer {
     /// The text.
     pub text: Outcome<String>,
+    /// How many needed spaces the text has (02, #106).
+    pub needed: usize,
     /// Whether it is joined; for a unit that is no question.
     pub joined: Option<Outcome<bool>>,
 }
 
 /// Answers a question.
+///
+/// # Panics
+///
+/// Where the oracle contradicts itself: a tree's tokens are not those of the Rust module's text.
 pub fn answer(question: &Question) -> Answer {
     let Question { root, settings, records, names } = question;
     let settings = settings::read(settings);
-    match root {
-        Root::Unit => {
-            let unit = read::unit(records, names);
-            Answer { text: printed(settings, unit, print::unit), joined: None }
-        }
+    let (text, joined) = match root {
+        Root::Unit => (printed(settings, read::unit(records, names), spaced::unit), None),
         Root::Expr => {
             let expr = read::expr(records, names);
             let joined = expr.clone().map_or_else(Outcome::Refused, |whole| given(&whole, is_joined));
-            Answer { text: printed(settings, expr, print::expr), joined: Some(joined) }
+            (printed(settings, expr, spaced::expr), Some(joined))
         }
-    }
+    };
+    let (text, needed) = match text {
+        Outcome::Given(Some(Spaced { text, needed })) => (Outcome::Given(text), needed.len()),
+        Outcome::Given(None) => panic!("the tokens are not those of 000's text: {}", line::asked(question)),
+        Outcome::Refused(refusal) => (Outcome::Refused(refusal), 0),
+        Outcome::NotAsked => (Outcome::NotAsked, 0),
+    };
+    Answer { text, needed, joined }
 }
 
 /// The outcome of a print: refusal 1 comes before those of the tree.
-fn printed<T>(
-    settings: Result<FormattingSettings, Refusal>,
+fn printed<T, A>(
+    settings: Result<Settings, Refusal>,
     tree: Result<Whole<T>, Refusal>,
-    show: fn(&T, &FormattingSettings) -> String,
-) -> Outcome<String> {
+    show: fn(&T, &Settings) -> A,
+) -> Outcome<A> {
     match settings.and_then(|settings| Ok((settings, tree?))) {
         Ok((settings, whole)) => given(&whole, |tree| show(tree, &settings)),
         Err(refusal) => Outcome::Refused(refusal),

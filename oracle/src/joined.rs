@@ -2,14 +2,11 @@
 //! a unary plus or minus has a bare operand (for binary, the right one) whose text begins with the same sign, or a Dot
 //! stands directly over an IntConst.
 //!
-//! Any place of the expression counts, in the types of callees too. Both "bare" and "begins" are read off the TIGHT texts of
-//! the Rust module; no binding strength is known here.
+//! Any place of the expression counts, in the types of callees too: [`mod@tokens`] goes to all of them. Both "bare" and "begins"
+//! are read off the TIGHT texts of the Rust module; no binding strength is known here.
 
-use crate::{print, settings};
-use glsl_lang::ast::{
-    self, ArraySpecifierDimensionData, BinaryOpData, ExprData, FunIdentifierData, LayoutQualifierSpecData,
-    StorageQualifierData, TypeQualifierSpecData, TypeSpecifierNonArrayData, UnaryOpData,
-};
+use crate::{print, settings, tokens};
+use glsl_lang::ast::{self, BinaryOpData, ExprData, UnaryOpData};
 
 /// What joins: the three sorts that the rule names.
 #[derive(Clone, Copy, Debug, PartialEq, Eq, PartialOrd, Ord)]
@@ -27,21 +24,11 @@ pub const JOINTS: [Joint; 3] = [Joint::Binary, Joint::Unary, Joint::Dot];
 
 /// Whether an expression is joined.
 pub fn is_joined(expr: &ast::Expr) -> bool {
-    some_part(expr, &|part| joint_at(part).is_some())
-}
-
-/// Whether some place of an expression is joined in this way.
-pub fn has(expr: &ast::Expr, joint: Joint) -> bool {
-    some_part(expr, &|part| joint_at(part) == Some(joint))
-}
-
-/// Whether an expression is joined in this way and in no other, so that its answer hangs on this part of the rule.
-pub fn is_joined_only_by(expr: &ast::Expr, joint: Joint) -> bool {
-    JOINTS.into_iter().all(|other| has(expr, other) == (other == joint))
+    tokens::expr(expr).are_joined()
 }
 
 /// How an expression's own record is joined to its operand. Parts below it do not count.
-fn joint_at(expr: &ast::Expr) -> Option<Joint> {
+pub fn joint_at(expr: &ast::Expr) -> Option<Joint> {
     match &**expr {
         ExprData::Binary(op, _, right) => {
             let sign = binary_sign(op)?;
@@ -89,83 +76,16 @@ fn tight_text(expr: &ast::Expr) -> String {
     print::expr(expr, &settings::tight())
 }
 
-/// What is asked of a part.
-type Asked<'a> = &'a dyn Fn(&ast::Expr) -> bool;
-
-/// Whether it holds for the expression or for an expression anywhere in it.
-fn some_part(expr: &ast::Expr, asked: Asked<'_>) -> bool {
-    let below = |part: &ast::Expr| some_part(part, asked);
-    asked(expr)
-        || match &**expr {
-            ExprData::Variable(_)
-            | ExprData::IntConst(_)
-            | ExprData::UIntConst(_)
-            | ExprData::BoolConst(_)
-            | ExprData::FloatConst(_)
-            | ExprData::DoubleConst(_) => false,
-            ExprData::Unary(_, e) | ExprData::Dot(e, _) | ExprData::PostInc(e) | ExprData::PostDec(e) => below(e),
-            ExprData::Binary(_, a, b)
-            | ExprData::Assignment(a, _, b)
-            | ExprData::Bracket(a, b)
-            | ExprData::Comma(a, b) => below(a) || below(b),
-            ExprData::Ternary(a, b, c) => below(a) || below(b) || below(c),
-            ExprData::FunCall(callee, arguments) => in_callee(callee, asked) || arguments.iter().any(below),
-        }
-}
-
-fn in_callee(callee: &ast::FunIdentifier, asked: Asked<'_>) -> bool {
-    match &**callee {
-        FunIdentifierData::TypeSpecifier(ty) => in_type(ty, asked),
-        FunIdentifierData::Expr(e) => some_part(e, asked),
-    }
-}
-
-fn in_type(ty: &ast::TypeSpecifier, asked: Asked<'_>) -> bool {
-    let in_struct = match &*ty.ty {
-        TypeSpecifierNonArrayData::Struct(s) => s.fields.iter().any(|field| in_field(field, asked)),
-        _ => false,
-    };
-    in_struct || in_array(&ty.array_specifier, asked)
-}
-
-fn in_field(field: &ast::StructFieldSpecifier, asked: Asked<'_>) -> bool {
-    field.qualifier.iter().flat_map(|q| &q.qualifiers).any(|spec| in_qualifier(spec, asked))
-        || in_type(&field.ty, asked)
-        || field.identifiers.iter().any(|identifier| in_array(&identifier.array_spec, asked))
-}
-
-fn in_qualifier(spec: &ast::TypeQualifierSpec, asked: Asked<'_>) -> bool {
-    match &**spec {
-        TypeQualifierSpecData::Storage(storage) => match &**storage {
-            StorageQualifierData::Subroutine(types) => types.iter().any(|ty| in_type(ty, asked)),
-            _ => false,
-        },
-        TypeQualifierSpecData::Layout(layout) => layout.ids.iter().any(|id| match &**id {
-            LayoutQualifierSpecData::Identifier(_, value) => value.iter().any(|e| some_part(e, asked)),
-            LayoutQualifierSpecData::Shared => false,
-        }),
-        TypeQualifierSpecData::Precision(_)
-        | TypeQualifierSpecData::Interpolation(_)
-        | TypeQualifierSpecData::Invariant
-        | TypeQualifierSpecData::Precise => false,
-    }
-}
-
-fn in_array(array: &Option<ast::ArraySpecifier>, asked: Asked<'_>) -> bool {
-    array.iter().flat_map(|a| &a.dimensions).any(|dimension| match &**dimension {
-        ArraySpecifierDimensionData::Unsized => false,
-        ArraySpecifierDimensionData::ExplicitlySized(e) => some_part(e, asked),
-    })
-}
-
 #[cfg(test)]
 mod tests {
     use super::*;
     use crate::tables;
     use glsl_lang::ast::{
-        ArraySpecifierData, AssignmentOpData, LayoutQualifierData, StructFieldSpecifierData, StructSpecifierData,
-        TypeQualifierData, TypeSpecifierData,
+        ArraySpecifierData, ArraySpecifierDimensionData, AssignmentOpData, FunIdentifierData, LayoutQualifierData,
+        LayoutQualifierSpecData, StorageQualifierData, StructFieldSpecifierData, StructSpecifierData,
+        TypeQualifierData, TypeQualifierSpecData, TypeSpecifierData, TypeSpecifierNonArrayData,
     };
+    use std::collections::BTreeSet;
 
     fn name() -> ast::Expr {
         ExprData::variable("a").into()
@@ -225,7 +145,8 @@ mod tests {
     fn says(expr: &ast::Expr, joints: &[Joint]) {
         let text = tight_text(expr);
         assert_eq!(is_joined(expr), !joints.is_empty(), "{text}");
-        assert_eq!(JOINTS.into_iter().filter(|&joint| has(expr, joint)).collect::<Vec<_>>(), joints, "{text}");
+        let found: BTreeSet<Joint> = tokens::expr(expr).joints().collect();
+        assert_eq!(found, joints.iter().copied().collect(), "{text}");
     }
 
     #[test]
@@ -345,9 +266,10 @@ mod tests {
     #[test]
     fn sorts_are_told_apart() {
         says(&less(minus(unary(UnaryOpData::Dec, dot(int(-1))))), &JOINTS);
-        assert!(is_joined_only_by(&dot(int(1)), Joint::Dot));
-        assert!(!is_joined_only_by(&minus(dot(int(-1))), Joint::Dot));
-        assert!(!is_joined_only_by(&name(), Joint::Dot));
+        let are_dots = |expr: &ast::Expr| tokens::expr(expr).are_joined_only_by(Joint::Dot);
+        assert!(are_dots(&dot(int(1))));
+        assert!(!are_dots(&minus(dot(int(-1)))));
+        assert!(!are_dots(&name()));
     }
 
     /// An expression for each sort.

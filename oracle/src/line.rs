@@ -50,15 +50,17 @@ pub fn claim(line: &str) -> Result<Claim<'_>, Fault> {
     Ok(Claim { question: read_question([root, settings, records, names])?, answer: [text, joined] })
 }
 
+/// Writes the four fields of a question.
+pub fn asked(question: &Question) -> String {
+    let Question { root, settings, records, names } = question;
+    let [settings, records, names] = [settings, records, names].map(|bytes| hex(bytes));
+    format!("{root:?} {settings} {records} {names}")
+}
+
 /// Writes the six fields of a question and its answers.
 pub fn answered(question: &Question, answer: &Answer) -> String {
-    let root = match question.root {
-        Root::Unit => "Unit",
-        Root::Expr => "Expr",
-    };
-    let [settings, records, names] = [&question.settings, &question.records, &question.names].map(|bytes| hex(bytes));
     let [text, joined] = answer_fields(answer);
-    format!("{root} {settings} {records} {names} {text} {joined}")
+    format!("{} {text} {joined}", asked(question))
 }
 
 /// Writes TEXT and JOINED.

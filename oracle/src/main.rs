@@ -1,7 +1,7 @@
 //! The program `oracle`: answers, checks and makes lines of questions (see `oracle::line` for their format), and tries whether
-//! the joined question is exact.
+//! the joined question is exact, and whether needed spaces are.
 
-use oracle::{answer, exact, grow, line, sample};
+use oracle::{answer, exact, grow, line, needed, sample};
 use std::fmt::Display;
 use std::fs::File;
 use std::io::{self, BufRead, BufReader, BufWriter, Write};
@@ -13,6 +13,8 @@ usage: oracle answer               reads lines `Unit|Expr SETTINGS RECORDS NAMES
        oracle vectors SEED COUNT   writes COUNT random questions with their answers
        oracle exact RECORDS        tries whether the joined answer is yes exactly where splitting the text by longest
                                    match does not give its tokens, on all expressions of up to RECORDS records
+       oracle needed RECORDS       tries on the same expressions whether texts with needed spaces split into their tokens,
+                                   and into others without any one of these spaces
        oracle sample Unit|Expr|Name SEED
        oracle sample State
                                    writes the sample that crates/replay replays (see `oracle::sample` for its format)
@@ -30,6 +32,7 @@ fn main() -> ExitCode {
         ["check", file] => check_file(file),
         ["vectors", seed, count] => vectors(seed, count),
         ["exact", records] => exact_up_to(records),
+        ["needed", records] => needed_up_to(records),
         ["sample", "State"] => write_bytes(&sample::states::file()),
         ["sample", asked, seed] => write_sample(asked, seed),
         _ => Err(USAGE.to_owned()),
@@ -108,6 +111,27 @@ fn exact_up_to(records: &str) -> Verdict {
         is_exact &= found.is_exact();
     }
     Ok(is_exact)
+}
+
+/// `needed`: two lines for each size, of TIGHT and of OPEN with needed spaces, and the first texts that speak against them.
+fn needed_up_to(records: &str) -> Verdict {
+    let mut is_good = true;
+    println!(
+        "{:>8}{:>9}{:>14}{:>14}{:>14}{:>10}{:>10}{:>8}",
+        "records", "settings", "texts", "spaced", "spaces", "misread", "needless", "unlike"
+    );
+    for records in 1..=number(records)? {
+        let found = needed::of_size(usize::try_from(records).map_err(message)?);
+        for (name, found) in ["TIGHT", "OPEN"].iter().zip(found) {
+            print!("{records:>8}{name:>9}{:>14}{:>14}{:>14}", found.texts, found.spaced, found.spaces);
+            println!("{:>10}{:>10}{:>8}", found.misread, found.needless, found.unlike);
+            for example in &found.examples {
+                println!("    {example}");
+            }
+            is_good &= found.is_good();
+        }
+    }
+    Ok(is_good)
 }
 
 /// `sample`: the file of what is asked and a seed.

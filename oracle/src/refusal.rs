@@ -5,7 +5,7 @@ use std::fmt;
 /// Why there is no answer. The numbers are document 01's; 13 needs a room, which the oracle has not.
 #[derive(Clone, Copy, Debug, PartialEq, Eq, PartialOrd, Ord)]
 pub enum Reason {
-    /// Settings not 21 bytes, or a byte out of range.
+    /// Settings neither 21 nor 22 bytes, or a byte out of range.
     Settings = 1,
     /// Records empty, not whole, or above 4,096.
     Records = 2,

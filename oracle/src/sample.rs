@@ -20,11 +20,12 @@ pub mod states;
 use crate::answer::{answer, Outcome, Question, Root};
 use crate::cases::{cover, damage, limits, tight};
 use crate::grow;
-use crate::joined::{self, Joint, JOINTS};
+use crate::joined::{Joint, JOINTS};
 use crate::random::Random;
 use crate::read;
 use crate::refusal::Refusal;
 use crate::settings;
+use crate::tokens;
 use crate::tree::{all, declared, function, int, keyword, many, named, plain, rec, var};
 use crate::words;
 use std::collections::BTreeMap;
@@ -37,7 +38,7 @@ const SPARE_ROOM: usize = 8;
 const GROWN: u64 = 60_000;
 /// Damages of each tree from which the refused ones are taken.
 const DAMAGES: usize = 400;
-/// Trees that are taken for each sort of joint, because they are joined by it alone.
+/// Trees that are taken for each sort of joint, because they are joined by it alone. Each is asked for twice.
 const JOINED: usize = 20;
 /// Refusals are taken at the first so many places.
 const PLACES: usize = 12;
@@ -132,8 +133,8 @@ fn first(kind: u8, cases: usize) -> Vec<u8> {
     rec(kind, 0, 0, u32::try_from(cases).expect(SMALL), 0)
 }
 
-/// The cases of a root and a seed: the smallest trees with each kind and variant in three rooms, expressions of all sizes
-/// that are joined in each way, every value of every setting, every refusal in several places, and the limits.
+/// The cases of a root and a seed: the smallest trees with each kind and variant in three rooms, trees of all sizes that are
+/// joined in each way, every value of every setting, every refusal in several places, and the limits.
 pub fn cases(root: Root, seed: u64) -> Vec<Case> {
     let trees = cover::smallest(root, seed, GROWN);
     let covering = trees.iter().cloned().chain((root == Root::Unit).then(int_x));
@@ -151,19 +152,32 @@ fn int_x() -> Question {
     }
 }
 
-/// Grown expressions that are joined, for each sort of joint some that are joined by it alone.
+/// Grown trees that are joined, for each sort of joint some that are joined by it alone: without needed spaces and with them.
 fn joined(root: Root, seed: u64) -> impl Iterator<Item = Question> {
-    let taken = if root == Root::Expr { JOINED } else { 0 };
     JOINTS.into_iter().flat_map(move |joint| {
-        let grown = (0..).map(move |case| grow::rooted(Root::Expr, seed, case));
-        grown.filter(move |question| is_joined_only_by(question, joint)).take(taken)
+        let grown = (0..).map(move |case| grow::rooted(root, seed, case));
+        let trees = grown.filter(move |question| is_joined_only_by(question, joint)).take(JOINED);
+        trees.flat_map(|tree| [0, 1].map(|byte| with_setting(&tree, settings::SPACES_WHERE_NEEDED, byte)))
     })
 }
 
-/// Whether a question's expression is joined by this sort alone.
+/// Whether a question's tree is joined by this sort alone.
 fn is_joined_only_by(question: &Question, joint: Joint) -> bool {
-    let whole = read::expr(&question.records, &question.names);
-    whole.is_ok_and(|whole| joined::is_joined_only_by(&whole.tree, joint))
+    let Question { root, records, names, .. } = question;
+    let tokens = match root {
+        Root::Unit => read::unit(records, names).map(|whole| tokens::unit(&whole.tree, false)),
+        Root::Expr => read::expr(records, names).map(|whole| tokens::expr(&whole.tree)),
+    };
+    tokens.is_ok_and(|tokens| tokens.are_joined_only_by(joint))
+}
+
+/// The question with this value of a byte of its settings, which may be the one behind them.
+fn with_setting(question: &Question, at: usize, value: u8) -> Question {
+    let mut question = question.clone();
+    let length = question.settings.len().max(at + 1);
+    question.settings.resize(length, 0);
+    question.settings[at] = value;
+    question
 }
 
 /// A text on which every setting is seen that a tree with this root can see.
@@ -174,17 +188,22 @@ fn telling(root: Root) -> Question {
     }
 }
 
-/// `struct S{const int a[b+1],c;int a;}(a,b)`.
+/// `struct S{const int a[b+1],c;int a;}(a,b---1.b)`.
 fn telling_expr() -> Vec<u8> {
     let array = all(&[&many(24, 1), &plain(25, 1), &plain(8, 14), &var(1), &int(1)]);
     let first = all(&[&rec(26, 1, 2, 0, 0), &many(28, 1), &plain(29, 0), &keyword(2), &named(27, 1, 0), &array]);
     let second = all(&[&many(26, 1), &keyword(2), &named(27, 0, 0)]);
     let structure = all(&[&plain(20, 0), &rec(23, 1, 2, 3, 1), &first, &named(27, 0, 2), &second]);
-    all(&[&many(12, 2), &structure, &var(0), &var(1)])
+    all(&[&many(12, 2), &structure, &var(0), &joined_thrice()])
+}
+
+/// `b---1.b`, which needs three spaces: `b- - -1 .b`.
+fn joined_thrice() -> Vec<u8> {
+    all(&[&plain(8, 15), &var(1), &plain(7, 3), &named(13, 0, 1), &int(u32::MAX)])
 }
 
 /// `struct S{int a;float b;}c;`, `void f(){int a[]={1,2};for(;a;a++){b;}if(a){b;}else{c;}switch(a){case 1:break;default:}return
-/// a+b;}` and `invariant a;`.
+/// b---1.b;}` and `invariant a;`.
 fn telling_unit() -> Vec<u8> {
     let field = |keyword_: u8, name: u32| all(&[&many(26, 1), &keyword(keyword_), &named(27, 0, name)]);
     let structure = all(&[&declared(2), &plain(20, 0), &rec(23, 1, 2, 4, 1), &field(2, 0), &field(4, 1)]);
@@ -195,30 +214,27 @@ fn telling_unit() -> Vec<u8> {
     let head = all(&[&plain(67, 3), &plain(70, 0), &plain(69, 0), &var(0), &plain(14, 0), &var(0)]);
     let choice = all(&[&plain(62, 1), &var(0), &block(1), &block(2)]);
     let switch = all(&[&many(63, 3), &var(0), &plain(64, 1), &int(1), &plain(68, 1), &plain(64, 0)]);
-    let sum = all(&[&plain(68, 4), &plain(8, 14), &var(0), &var(1)]);
-    let body = all(&[&many(60, 5), &list, &head, &block(1), &choice, &switch, &sum]);
+    let difference = all(&[&plain(68, 4), &joined_thrice()]);
+    let body = all(&[&many(60, 5), &list, &head, &block(1), &choice, &switch, &difference]);
     all(&[&many(80, 3), &structure, &function(3), &body, &named(47, 4, 0)])
 }
 
-/// The settings of which one byte at a time is changed: tight ones, which collapse a unit's statements, and OPEN.
-fn bases(root: Root) -> [[u8; settings::SIZE]; 2] {
-    let mut first = settings::TIGHT;
-    first[settings::COLLAPSE] = u8::from(root == Root::Unit);
-    [first, settings::OPEN]
+/// The settings of which one byte at a time is changed: tight ones, which collapse a unit's statements, and OPEN with needed
+/// spaces.
+fn bases(root: Root) -> [Question; 2] {
+    let tight = with_setting(&telling(root), settings::COLLAPSE, u8::from(root == Root::Unit));
+    [tight, Question { settings: settings::longer(settings::OPEN, 1).to_vec(), ..telling(root) }]
 }
 
 /// Every value of every byte of the settings and one beyond it, and other lengths.
 fn each_setting(root: Root) -> impl Iterator<Item = Question> {
     let beyond = settings::GREATEST.into_iter().enumerate().map(|(at, greatest)| (at, greatest + 1));
-    let records = bases(root).into_iter().flat_map(move |base| {
-        settings::values().chain(beyond.clone()).map(move |(at, value)| {
-            let mut bytes = base;
-            bytes[at] = value;
-            bytes.to_vec()
-        })
-    });
-    let lengths = [0, 20, 22].map(|length| vec![0; length]);
-    records.chain(lengths).map(move |settings| Question { settings, ..telling(root) })
+    let values = settings::values().chain(beyond);
+    let questions = bases(root)
+        .into_iter()
+        .flat_map(move |base| values.clone().map(move |(at, value)| with_setting(&base, at, value)));
+    let lengths = [0, settings::SIZE - 1, settings::LONGER + 1].map(|length| vec![0; length]);
+    questions.chain(lengths.map(|settings| Question { settings, ..telling(root) }))
 }
 
 /// The shortest damaged trees that are refused with each number at each place.
@@ -238,10 +254,11 @@ fn refused(trees: &[Question], seed: u64) -> impl Iterator<Item = Question> {
     shortest.into_values()
 }
 
-/// At the limits and beyond: depth; of expressions also number of records, size of the names, lengths of texts and their
-/// ends, integers.
+/// At the limits and beyond: depth, where signs may meet; of expressions also number of records, size of the names,
+/// lengths of texts and their ends, integers.
 fn at_limits(root: Root) -> impl Iterator<Item = Question> {
     let deep = limits::around_deepest().filter(move |[deepest, _]| deepest.root == root).step_by(3).flatten();
+    let deep = deep.map(|question| Question { settings: settings::EXPORT.to_vec(), ..question });
     deep.chain((root == Root::Expr).then(expr_limits).into_iter().flatten())
 }
 
@@ -289,13 +306,19 @@ mod tests {
     }
 
     #[test]
-    fn the_sample_has_every_sort_of_joint_and_none() {
-        let cases = cases(Root::Expr, 1);
-        for joint in JOINTS {
-            let alone = cases.iter().filter(|case| case.joined == (0, 1) && is_joined_only_by(&case.question, joint));
-            assert!(alone.count() >= JOINED, "{joint:?}");
+    fn the_samples_have_every_sort_of_joint_and_none() {
+        for root in ROOTS {
+            let cases = cases(root, 1);
+            for (joint, byte) in JOINTS.into_iter().flat_map(|joint| [(joint, 0), (joint, 1)]) {
+                let is_asked = |q: &Question| q.settings.get(settings::SPACES_WHERE_NEEDED) == Some(&byte);
+                let alone = cases.iter().filter(|case| is_asked(&case.question) && case.print.0 == 0);
+                let alone = alone.filter(|case| is_joined_only_by(&case.question, joint));
+                assert!(alone.count() >= JOINED, "{root:?}, {joint:?} at {byte}");
+            }
         }
-        assert!(cases.iter().filter(|case| case.joined == (0, 0)).count() >= JOINED);
+        let cases = cases(Root::Expr, 1);
+        let [apart, joined] = [(0, 0), (0, 1)].map(|said| cases.iter().filter(|case| case.joined == said).count());
+        assert!(apart >= JOINED && joined >= 6 * JOINED);
     }
 
     #[test]
@@ -316,6 +339,9 @@ mod tests {
     fn every_setting_of_an_expression_is_seen() {
         let texts: BTreeSet<String> = each_setting(Root::Expr).filter_map(|question| text(&question)).collect();
         assert!(texts.len() > 30, "{}", texts.len());
+        assert!(texts.iter().any(|text| text.ends_with("(a,b---1.b)")));
+        assert!(texts.iter().any(|text| text.ends_with("(a,b- - -1 .b)")));
+        assert!(texts.iter().any(|text| text.ends_with("(a, b - - -1 .b)")));
     }
 
     /// Each value of a byte has its own texts, but for struct_declaration_terminator, which only show_struct reads.
@@ -323,12 +349,7 @@ mod tests {
     fn every_setting_of_a_unit_is_seen() {
         for (at, greatest) in settings::GREATEST.into_iter().enumerate().filter(|&(at, _)| at != 9) {
             let texts: BTreeSet<_> = (0..=greatest)
-                .map(|value| {
-                    bases(Root::Unit).map(|mut bytes| {
-                        bytes[at] = value;
-                        text(&Question { settings: bytes.to_vec(), ..telling(Root::Unit) })
-                    })
-                })
+                .map(|value| bases(Root::Unit).map(|base| text(&with_setting(&base, at, value))))
                 .collect();
             assert_eq!(texts.len(), usize::from(greatest) + 1, "{at}");
         }

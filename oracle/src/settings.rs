@@ -1,33 +1,59 @@
-//! The settings record (01): 21 bytes for the fields of the module's `FormattingSettings`, in their order.
+//! The settings record: 21 bytes for the fields of the module's `FormattingSettings`, in their order (01), and perhaps one
+//! more for a setting of our own (02, #106).
 
 use crate::refusal::{Reason, Refusal};
 use glsl_lang::transpiler::glsl::{FormattingSettings, IndentStyle, Whitespace};
 
-/// Bytes of a settings record.
+/// Bytes of a settings record that says nothing of our own setting.
 pub const SIZE: usize = 21;
+/// Bytes of one that does.
+pub const LONGER: usize = SIZE + 1;
 /// All zero.
 pub const TIGHT: [u8; SIZE] = [0; SIZE];
 /// Indents of four spaces, a newline wherever one can stand, no collapse.
 pub const OPEN: [u8; SIZE] = [2, 4, 1, 1, 1, 1, 1, 1, 2, 2, 2, 2, 1, 2, 2, 0, 1, 1, 1, 1, 1];
+/// TIGHT with needed spaces: what an export should use.
+pub const EXPORT: [u8; LONGER] = longer(TIGHT, 1);
 /// The greatest value of each byte: the indent and its count, then flags (1) and whitespaces (2).
-pub const GREATEST: [u8; SIZE] = [2, 16, 1, 1, 1, 1, 1, 1, 2, 2, 2, 2, 1, 2, 2, 1, 1, 1, 1, 1, 1];
+pub const GREATEST: [u8; LONGER] = [2, 16, 1, 1, 1, 1, 1, 1, 2, 2, 2, 2, 1, 2, 2, 1, 1, 1, 1, 1, 1, 1];
 
+/// The byte of spaces_around_binary_ops.
+pub const OPERATOR_SPACES: usize = 12;
 /// The byte of collapse_single_item_compound_statements.
 pub const COLLAPSE: usize = 15;
+/// The byte of our own setting.
+pub const SPACES_WHERE_NEEDED: usize = SIZE;
+
+/// What a settings record says.
+#[derive(Clone, Debug, PartialEq, Eq)]
+pub struct Settings {
+    /// The module's own settings.
+    pub module: FormattingSettings,
+    /// Whether needed spaces are written (02, #106), which the module knows nothing of.
+    pub spaces_where_needed: bool,
+}
+
+/// A record with a value for our own setting.
+pub const fn longer(record: [u8; SIZE], spaces_where_needed: u8) -> [u8; LONGER] {
+    let mut bytes = [spaces_where_needed; LONGER];
+    bytes.split_at_mut(SIZE).0.copy_from_slice(&record);
+    bytes
+}
 
 /// Each value of each byte: where it stands, and the value.
 pub fn values() -> impl Iterator<Item = (usize, u8)> + Clone {
     GREATEST.into_iter().enumerate().flat_map(|(at, greatest)| (0..=greatest).map(move |value| (at, value)))
 }
 
-/// Reads a settings record; refusal 1 where it is none.
-pub fn read(bytes: &[u8]) -> Result<FormattingSettings, Refusal> {
-    let refusal = Refusal::whole(Reason::Settings);
-    let bytes: &[u8; SIZE] = bytes.try_into().map_err(|_| refusal)?;
-    if bytes.iter().zip(&GREATEST).any(|(byte, greatest)| byte > greatest) {
-        return Err(refusal);
+/// Reads a settings record; refusal 1 where it is none. 21 bytes mean that the last is 0.
+pub fn read(bytes: &[u8]) -> Result<Settings, Refusal> {
+    let is_in_range = bytes.iter().zip(&GREATEST).all(|(byte, greatest)| byte <= greatest);
+    match bytes.split_first_chunk() {
+        Some((module, rest @ ([] | [_]))) if is_in_range => {
+            Ok(Settings { module: from_valid(module), spaces_where_needed: rest == [1] })
+        }
+        _ => Err(Refusal::whole(Reason::Settings)),
     }
-    Ok(from_valid(bytes))
 }
 
 /// TIGHT as the module's settings.
@@ -35,7 +61,7 @@ pub fn tight() -> FormattingSettings {
     from_valid(&TIGHT)
 }
 
-/// The settings of bytes in range.
+/// The module's settings of bytes in range.
 fn from_valid(bytes: &[u8; SIZE]) -> FormattingSettings {
     let flag = |at: usize| bytes[at] == 1;
     let whitespace = |at: usize| whitespace_of(bytes[at]);
@@ -51,7 +77,7 @@ fn from_valid(bytes: &[u8; SIZE]) -> FormattingSettings {
         struct_declaration_terminator: whitespace(9),
         declaration_terminator: whitespace(10),
         case_label_terminator: whitespace(11),
-        spaces_around_binary_ops: flag(12),
+        spaces_around_binary_ops: flag(OPERATOR_SPACES),
         statement_terminator: whitespace(13),
         function_definition_terminator: whitespace(14),
         collapse_single_item_compound_statements: flag(COLLAPSE),
@@ -88,7 +114,8 @@ mod tests {
 
     #[test]
     fn open_is_the_default_of_the_module() {
-        assert_eq!(read(&OPEN), Ok(FormattingSettings::default()));
+        let open = Settings { module: FormattingSettings::default(), spaces_where_needed: false };
+        assert_eq!(read(&OPEN), Ok(open));
     }
 
     #[test]
@@ -99,16 +126,29 @@ mod tests {
     }
 
     #[test]
+    fn the_last_byte_is_our_own_setting() {
+        for record in [TIGHT, OPEN] {
+            let [short, at_0, at_1] = [&record[..], &longer(record, 0), &longer(record, 1)].map(read);
+            assert_eq!(short, at_0);
+            assert_eq!(short.map(|settings| Settings { spaces_where_needed: true, ..settings }), at_1);
+        }
+        assert_eq!(read(&EXPORT), Ok(Settings { module: tight(), spaces_where_needed: true }));
+    }
+
+    #[test]
     fn out_of_range_or_length_is_refused() {
         let refusal = Err(Refusal::whole(Reason::Settings));
-        assert_eq!(read(&OPEN[..20]), refusal);
-        assert_eq!(read(&[0; 22]), refusal);
-        for at in 0..SIZE {
-            let mut bytes = TIGHT;
-            bytes[at] = GREATEST[at];
-            assert!(read(&bytes).is_ok(), "{at}");
-            bytes[at] += 1;
-            assert_eq!(read(&bytes), refusal, "{at}");
+        for length in (0..SIZE).chain([LONGER + 1, 2 * SIZE]) {
+            assert_eq!(read(&vec![0; length]), refusal, "{length}");
+        }
+        for base in [&TIGHT[..], &EXPORT] {
+            for at in 0..base.len() {
+                let mut bytes = base.to_vec();
+                bytes[at] = GREATEST[at];
+                assert!(read(&bytes).is_ok(), "{at}");
+                bytes[at] += 1;
+                assert_eq!(read(&bytes), refusal, "{at}");
+            }
         }
     }
 }

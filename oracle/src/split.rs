@@ -1,7 +1,7 @@
 //! Splitting a text by longest match into the words of GLSL 4.60, chapter 3: identifiers and keywords, numbers exactly as in
-//! 4.1.3 and 4.1.4, and symbols.
+//! 4.1.3 and 4.1.4, and symbols. Blanks stand between them.
 //!
-//! Blanks and comments are not known here: no TIGHT text of an expression without a struct holds one.
+//! Comments are not known here: no text of ours holds one.
 
 /// Operators of several characters; each other word that is no name and no number is one of [`SINGLE`].
 #[rustfmt::skip]
@@ -12,15 +12,22 @@ const OPERATORS: [&str; 21] = [
 /// Symbols of one character.
 const SINGLE: &[u8] = b"()[]{}.,:=;!-~+*/%<>|^&?";
 
-/// The end of each word of the text; nothing where some place begins no word.
-pub fn split(text: &str) -> Option<Vec<usize>> {
-    let mut ends = Vec::new();
-    let mut at = 0;
-    while at < text.len() {
-        at += longest(&text.as_bytes()[at..])?;
-        ends.push(at);
+/// The words of a text; nothing where some place begins no word.
+pub fn split(text: &str) -> Option<Vec<&str>> {
+    let (mut words, mut rest) = (Vec::new(), blanks(text).1);
+    while !rest.is_empty() {
+        // A word is ASCII.
+        let (word, behind) = rest.split_at(longest(rest.as_bytes())?);
+        words.push(word);
+        rest = blanks(behind).1;
     }
-    Some(ends)
+    Some(words)
+}
+
+/// The blanks that stand at the front, and what is behind them.
+pub fn blanks(text: &str) -> (&str, &str) {
+    let behind = text.trim_start_matches([' ', '\t', '\n', '\x0b', '\x0c', '\r']);
+    text.split_at(text.len() - behind.len())
 }
 
 /// The length of the longest word that stands at the front.
@@ -110,15 +117,8 @@ fn some_run(text: &[u8], is_such: impl Fn(u8) -> bool) -> Option<usize> {
 mod tests {
     use super::*;
 
-    /// The words of a text, with a blank between any two.
-    fn words(text: &str) -> Option<String> {
-        let ends = split(text)?;
-        let starts = [0].into_iter().chain(ends.iter().copied());
-        Some(starts.zip(&ends).map(|(start, &end)| &text[start..end]).collect::<Vec<_>>().join(" "))
-    }
-
     fn splits(text: &str, into: &str) {
-        assert_eq!(words(text).as_deref(), Some(into));
+        assert_eq!(split(text).map(|words| words.join(" ")).as_deref(), Some(into));
     }
 
     #[test]
@@ -176,9 +176,26 @@ mod tests {
 
     #[test]
     fn what_begins_no_word_is_not_split() {
-        for text in ["a b", "a\n", "#", "a\\", "é", "\"", "@"] {
+        for text in ["#", "a\\", "é", "\"", "@", "a\0", "a\u{a0}"] {
             assert_eq!(split(text), None, "{text:?}");
         }
-        assert_eq!(split(""), Some(Vec::new()));
+    }
+
+    #[test]
+    fn blanks_stand_between_words_alone() {
+        for (text, words) in [
+            ("", ""),
+            (" \t\n", ""),
+            ("a b", "a b"),
+            ("\ta\n b\r", "a b"),
+            ("a- -b", "a - - b"),
+            ("- --a", "- -- a"),
+            ("1 .x", "1 . x"),
+            ("1 .5", "1 .5"),
+            ("a\x0b\x0cb", "a b"),
+        ] {
+            splits(text, words);
+        }
+        assert_eq!(blanks(" \na b"), (" \n", "a b"));
     }
 }

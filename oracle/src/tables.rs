@@ -163,12 +163,9 @@ mod tests {
     }
 
     #[test]
-    fn qualifiers_are_fixed_words() {
-        let written = shown!(STORAGE, show_storage_qualifier)
-            .chain(shown!(PRECISION, show_precision_qualifier))
-            .chain(shown!(INTERPOLATION, show_interpolation_qualifier));
-        for word in written {
-            assert!(words::is_fixed_word(word.as_bytes()), "{word}");
-        }
+    fn qualifiers_are_written_by_the_words_of_their_tables() {
+        assert!(shown!(STORAGE, show_storage_qualifier).eq(words::STORAGE.iter().copied()));
+        assert!(shown!(PRECISION, show_precision_qualifier).eq(words::PRECISION.iter().copied()));
+        assert!(shown!(INTERPOLATION, show_interpolation_qualifier).eq(words::INTERPOLATION.iter().copied()));
     }
 }

@@ -23,6 +23,13 @@ pub const OTHER_WORDS: [&str; 43] = [
     "if", "else", "switch", "case", "default", "while", "do", "for", "continue", "break", "discard", "return",
 ];
 
+/// The words of qualifiers, in the order of kind 29's variants: 0..16, 19..21 and 22..24.
+pub const STORAGE: &[&str] = OTHER_WORDS.split_at(3).1.split_at(17).0;
+/// See [`STORAGE`].
+pub const PRECISION: &[&str] = OTHER_WORDS.split_at(22).1.split_at(3).0;
+/// See [`STORAGE`].
+pub const INTERPOLATION: &[&str] = OTHER_WORDS.split_at(25).1.split_at(3).0;
+
 /// Longest name.
 pub const LONGEST_NAME: usize = 255;
 /// Longest float text.

@@ -34,9 +34,8 @@ fn every_kind_and_variant_comes_up() {
 #[test]
 fn every_settings_value_comes_up() {
     let seen: BTreeSet<(usize, u8)> = questions().flat_map(|q| q.settings.into_iter().enumerate()).collect();
-    let values: usize = settings::GREATEST.iter().map(|&greatest| usize::from(greatest) + 1).sum();
-    assert_eq!(seen.len(), values);
-    for constant in [settings::TIGHT, settings::OPEN] {
+    assert_eq!(seen, settings::values().collect());
+    for constant in [&settings::TIGHT[..], &settings::OPEN, &settings::EXPORT] {
         assert!(questions().any(|q| q.settings == constant));
     }
 }
@@ -64,6 +63,14 @@ fn joined_is_answered_both_ways() {
     let joined = questions().filter(|q| answer(q).joined == Some(Outcome::Given(true))).count();
     let not = questions().filter(|q| answer(q).joined == Some(Outcome::Given(false))).count();
     assert!(joined > 50 && not > 500, "{joined} joined, {not} not");
+}
+
+#[test]
+fn needed_spaces_are_printed() {
+    for root in [Root::Expr, Root::Unit] {
+        let spaced = questions().filter(|q| q.root == root && answer(q).needed > 0).count();
+        assert!(spaced > 5, "{root:?}: {spaced}");
+    }
 }
 
 #[test]

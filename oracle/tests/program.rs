@@ -101,6 +101,20 @@ fn exact_has_a_line_for_each_size() {
 }
 
 #[test]
+fn needed_has_two_lines_for_each_size() {
+    let output = run(&["needed", "2"], "");
+    assert_eq!(output.status.code(), Some(0));
+    let words: Vec<Vec<&str>> = text(&output.stdout).lines().map(|line| line.split_whitespace().collect()).collect();
+    assert_eq!(words[0], ["records", "settings", "texts", "spaced", "spaces", "misread", "needless", "unlike"]);
+    assert_eq!(words[1], ["1", "TIGHT", "9", "0", "0", "0", "0", "0"]);
+    // As many as are joined: none has a binary operator, which operator spaces would help.
+    for (line, settings) in words[3..].iter().zip(["TIGHT", "OPEN"]) {
+        assert_eq!(*line, ["2", settings, "108", "7", "7", "0", "0", "0"]);
+    }
+    assert_eq!(words.len(), 5);
+}
+
+#[test]
 fn faults_end_with_status_2_and_a_message() {
     let missing = run(&["check", "no such file"], "");
     let cut = run(&["answer"], "Expr 00\n");

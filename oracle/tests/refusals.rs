@@ -4,7 +4,7 @@ mod common;
 
 use common::ask;
 use oracle::answer::{Answer, Outcome, Root};
-use oracle::settings::TIGHT;
+use oracle::settings::{longer, TIGHT};
 use oracle::tree::{all, declared, function, int, keyword, many, named, plain, rec, var};
 
 /// The refusal of a print: number and place. Nothing where the text is given.
@@ -34,6 +34,22 @@ fn settings_come_first_but_not_for_the_joined_question() {
     assert_eq!(refusal(&ask(Root::Expr, &[], &[], "")), Some((1, 0)));
     let answer = ask(Root::Expr, &[], &var(0), "x");
     assert_eq!((refusal(&answer), answer.joined), (Some((1, 0)), Some(Outcome::Given(false))));
+}
+
+#[test]
+fn settings_have_21_or_22_bytes() {
+    for (settings, expected) in [
+        (vec![0; 20], Some((1, 0))),
+        (vec![0; 21], None),
+        (vec![0; 22], None),
+        (longer(TIGHT, 1).to_vec(), None),
+        (longer(TIGHT, 2).to_vec(), Some((1, 0))),
+        (longer(TIGHT, 255).to_vec(), Some((1, 0))),
+        (vec![0; 23], Some((1, 0))),
+    ] {
+        assert_eq!(refusal(&ask(Root::Expr, &settings, &var(0), "x")), expected, "{settings:?}");
+        assert_eq!(refusal(&ask(Root::Unit, &settings, &many(80, 0), "")), expected, "{settings:?}");
+    }
 }
 
 #[test]

@@ -1,32 +1,49 @@
-//! The Rust module's answers to document 01's "Texts to match", and to the rows of our own in crates/text/proofs/Rows.antt.
+//! The Rust module's answers to document 01's "Texts to match", and to the rows of our own in crates/text/proofs/Rows.antt; and
+//! the second printer's to rows with needed spaces (02, #106).
 //!
 //! The trees are built here by hand a second time, so that a slip in that file's records shows as a difference.
 
 mod common;
 
 use common::ask;
-use oracle::answer::{Answer, Outcome, Root};
-use oracle::settings::{OPEN, SIZE, TIGHT};
+use oracle::answer::{Outcome, Root};
+use oracle::settings::{longer, EXPORT, OPEN, SIZE, TIGHT};
 use oracle::tree::{all, declared, function, int, keyword, many, named, plain, rec, var};
 
 /// Asserts the text of a unit in one settings.
-fn unit_in(settings: [u8; SIZE], records: &[u8], names: &str, text: &str) {
-    let expected = Answer { text: Outcome::Given(text.into()), joined: None };
-    assert_eq!(ask(Root::Unit, &settings, records, names), expected);
+fn unit_in(settings: &[u8], records: &[u8], names: &str, text: &str) {
+    let answer = ask(Root::Unit, settings, records, names);
+    assert_eq!((answer.text, answer.joined), (Outcome::Given(text.into()), None));
 }
 
 /// Asserts the texts of a unit in TIGHT and OPEN.
 fn unit(records: &[u8], names: &str, tight: &str, open: &str) {
-    unit_in(TIGHT, records, names, tight);
-    unit_in(OPEN, records, names, open);
+    unit_in(&TIGHT, records, names, tight);
+    unit_in(&OPEN, records, names, open);
 }
 
-/// Asserts the texts of an expression in TIGHT and OPEN, and the answer to the joined question.
+/// Asserts the text of an expression in one settings, and the answer to the joined question.
+fn expr_in(settings: &[u8], records: &[u8], names: &str, text: &str, joined: bool) {
+    let answer = ask(Root::Expr, settings, records, names);
+    assert_eq!((answer.text, answer.joined), (Outcome::Given(text.into()), Some(Outcome::Given(joined))));
+}
+
+/// Asserts the texts of an expression in TIGHT and OPEN, and the answer to the joined question. With a byte 21 of 0 they are the
+/// same; with 1 they are if nothing is joined.
 fn expr(records: &[u8], names: &str, tight: &str, open: &str, joined: bool) {
     for (settings, text) in [(TIGHT, tight), (OPEN, open)] {
-        let expected = Answer { text: Outcome::Given(text.into()), joined: Some(Outcome::Given(joined)) };
-        assert_eq!(ask(Root::Expr, &settings, records, names), expected);
+        expr_in(&settings, records, names, text, joined);
+        expr_in(&longer(settings, 0), records, names, text, joined);
+        if !joined {
+            expr_in(&longer(settings, 1), records, names, text, joined);
+        }
     }
+}
+
+/// Asserts the texts of a joined expression in EXPORT, and in OPEN with needed spaces.
+fn spaced(records: &[u8], names: &str, export: &str, open: &str) {
+    expr_in(&EXPORT, records, names, export, true);
+    expr_in(&OPEN_SPACED, records, names, open, true);
 }
 
 fn minus() -> Vec<u8> {
@@ -146,6 +163,59 @@ fn signs_meet_or_not() {
     expr(&structure, "ab", "struct {int a[---b];}()", "struct  {\n    int a[---b];\n}()", true);
 }
 
+// Needed spaces (02, #106).
+
+const OPEN_SPACED: [u8; SIZE + 1] = longer(OPEN, 1);
+
+#[test]
+fn operands_are_spaced() {
+    let (increment, plus) = (plain(7, 0), plain(7, 2));
+    spaced(&all(&[&minus(), &var(0), &negate(), &var(1)]), "ab", "a- -b", "a - -b");
+    spaced(&all(&[&negate(), &decrement(), &var(0)]), "a", "- --a", "- --a");
+    spaced(&all(&[&minus(), &var(0), &decrement(), &var(1)]), "nk", "n- --k", "n - --k");
+    spaced(&all(&[&plain(8, 14), &var(0), &plus, &var(1)]), "ab", "a+ +b", "a + +b");
+    spaced(&all(&[&plus, &increment, &var(0)]), "a", "+ ++a", "+ ++a");
+    // An expression is spaced wherever it stands, and behind a callee too.
+    spaced(&all(&[&negate(), &many(12, 0), &negate(), &var(0)]), "a", "- -a()", "- -a()");
+    let product = all(&[&minus(), &var(0), &plain(8, 16), &negate(), &var(1), &var(2)]);
+    spaced(&product, "abc", "a- -b*c", "a - -b * c");
+}
+
+#[test]
+fn dots_behind_ints_are_spaced() {
+    let dot = named(13, 0, 0);
+    spaced(&all(&[&dot, &int(1)]), "x", "1 .x", "1 .x");
+    spaced(&all(&[&dot, &int(1 << 31)]), "x", "-2147483648 .x", "-2147483648 .x");
+    spaced(&all(&[&rec(13, 0, 0, 0, 2), &int(1)]), "lf", "1 .lf", "1 .lf");
+    spaced(&all(&[&dot, &dot, &int(1)]), "x", "1 .x.x", "1 .x.x");
+}
+
+#[test]
+fn unsound_trees_are_spaced_too() {
+    spaced(&all(&[&minus(), &var(0), &int(u32::MAX)]), "a", "a- -1", "a - -1");
+    spaced(&all(&[&negate(), &int(u32::MAX)]), "", "- -1", "- -1");
+    let thrice = all(&[&minus(), &var(0), &negate(), &named(13, 0, 1), &int(u32::MAX)]);
+    spaced(&thrice, "ax", "a- - -1 .x", "a - - -1 .x");
+}
+
+/// `int a[---b]=1.x;`, and a function whose body is `while(a--b)return ---b;`.
+#[test]
+fn expressions_in_units_are_spaced() {
+    let doubly = all(&[&negate(), &decrement(), &var(1)]);
+    let first = all(&[&plain(47, 1), &plain(42, 0), &named(43, 7, 0), &plain(31, 0), &keyword(2)]);
+    let array = all(&[&many(24, 1), &plain(25, 1), &doubly]);
+    let declaration = all(&[&first, &array, &plain(45, 0), &named(13, 0, 3), &int(1)]);
+    let condition = all(&[&plain(69, 0), &minus(), &var(0), &negate(), &var(1)]);
+    let body = all(&[&many(60, 1), &plain(65, 0), &condition, &plain(68, 4), &doubly]);
+    let records = all(&[&many(80, 2), &declaration, &function(2), &body]);
+    let tight = "int a[---b]=1.x;void f(){while(a--b)return ---b;}";
+    let open = "int a[---b] = 1.x;\nvoid f() {\n    while (a - -b) return ---b;\n}\n";
+    unit(&records, "abfx", tight, open);
+    unit_in(&EXPORT, &records, "abfx", "int a[- --b]=1 .x;void f(){while(a- -b)return - --b;}");
+    let open = "int a[- --b] = 1 .x;\nvoid f() {\n    while (a - -b) return - --b;\n}\n";
+    unit_in(&OPEN_SPACED, &records, "abfx", open);
+}
+
 /// OPEN and TIGHT with collapse, and a mixture in which a flushed newline shows.
 const COLLAPSING: [u8; SIZE] = with(TIGHT, 15, 1);
 const OPEN_COLLAPSING: [u8; SIZE] = with(OPEN, 15, 1);
@@ -159,19 +229,19 @@ const fn with(mut settings: [u8; SIZE], at: usize, byte: u8) -> [u8; SIZE] {
 #[test]
 fn flushed_newline_is_not_pending() {
     let records = all(&[&many(80, 1), &function(0), &many(60, 2), &plain(68, 4), &negate(), &var(1), &give_back()]);
-    unit_in(MIXED, &records, "fa", "void f(){\n\t\treturn -a; return; } ");
+    unit_in(&MIXED, &records, "fa", "void f(){\n\t\treturn -a; return; } ");
 }
 
 #[test]
 fn compound_of_one_collapses() {
     let records = all(&[&many(80, 1), &function(0), &many(60, 1), &many(60, 1), &give_back()]);
-    unit_in(COLLAPSING, &records, "f", "void f(){return;}");
+    unit_in(&COLLAPSING, &records, "f", "void f(){return;}");
 }
 
 #[test]
 fn compound_of_two_does_not_collapse() {
     let records = all(&[&many(80, 1), &function(0), &many(60, 1), &many(60, 2), &give_back(), &give_back()]);
-    unit_in(COLLAPSING, &records, "f", "void f(){{return;return;}}");
+    unit_in(&COLLAPSING, &records, "f", "void f(){{return;return;}}");
 }
 
 /// `if (a) { return; } else { return; }` in a function.
@@ -189,7 +259,7 @@ fn if_else_in_tight_and_open() {
 #[test]
 fn if_else_collapsed() {
     let open = "void f() {\n    if (a) \n        return; else \n        return;\n}\n";
-    unit_in(OPEN_COLLAPSING, &if_else(), "fa", open);
+    unit_in(&OPEN_COLLAPSING, &if_else(), "fa", open);
 }
 
 #[test]

@@ -7,10 +7,11 @@ use native.Mathlib.Omega.{arith}
 use lib.ListN.{drop}
 use lib.Seq.{drop-drop}
 use Rattle.words.specs.Symbol.{Symbol}
+use Rattle.text.specs.Asked.{Flag}
 use Rattle.text.specs.Command.{Command, symbol, exit-block, exit-collapsed-compound-statement}
 use Rattle.text.specs.Reading as Reading
 use Rattle.text.specs.Reading.{Read, Item}
-use Rattle.text.specs.Text.{bare-if, parenthesized, separator, braced-or-collapsed, space-between, show-expr, show-type-specifier, show-type-specifier-non-array, show-array-spec, show-dimension, show-struct-field, show-arrayed-identifier, show-type-qualifier, show-type-qualifier-spec, show-layout-qualifier-spec, show-fully-specified-type, show-function-prototype, show-function-parameter-declaration, show-init-declarator-list, show-single-declaration, show-single-declaration-no-type, show-initializer, show-block, show-declaration, show-statements, show-statement, show-condition, show-for-init-statement, show-external-declaration, show-translation-unit}
+use Rattle.text.specs.Text.{bare-if, apart, parenthesized, separator, braced-or-collapsed, space-between, show-expr, show-type-specifier, show-type-specifier-non-array, show-array-spec, show-dimension, show-struct-field, show-arrayed-identifier, show-type-qualifier, show-type-qualifier-spec, show-layout-qualifier-spec, show-fully-specified-type, show-function-prototype, show-function-parameter-declaration, show-init-declarator-list, show-single-declaration, show-single-declaration-no-type, show-initializer, show-block, show-declaration, show-statements, show-statement, show-condition, show-for-init-statement, show-external-declaration, show-translation-unit}
 use Rattle.formed.specs.Formed.{Formed-expr, Formed-type, Formed-base, Formed-dimensions, Formed-dimension, Formed-field, Formed-identifier, Formed-qualifier, Formed-spec, Formed-id, Formed-full-type, Formed-prototype, Formed-parameter, Formed-declarators, Formed-single, Formed-declarator, Formed-initializer, Formed-block, Formed-declaration, Formed-statements, Formed-statement, Formed-condition, Formed-for-init, Formed-external, Formed-unit}
 use Rattle.bounded.proofs.Weight.{level-weight, record-weight, line-weight, weighs, weighs-append}
 
@@ -76,6 +77,16 @@ unfolding weighs
 weighs-bare true cs = omega arith
 weighs-bare false cs = omega (arith, weighs-append cs (symbol Symbol.right-paren ∷ []))
 
+-- a space that is needed
+abbrev gaps : Bool → ℕ
+gaps true = 1
+gaps false = 0
+
+pub weighs-apart : (b : Bool) (f : Flag) (cs : List Command) → weighs (apart b f cs) ≡ min 1 (gaps b) + weighs cs
+unfolding weighs
+weighs-apart true f cs = omega arith
+weighs-apart false f cs = omega arith
+
 -- a list of types that is not there has no brackets
 pub weighs-unless : (b : Bool) (cs : List Command) → weighs (cond b [] (parenthesized cs)) ≤ 6 + weighs cs
 unfolding weighs
@@ -106,4 +117,4 @@ unfolding weighs
 weighs-compound true cs = omega (arith, weighs-append cs exit-collapsed-compound-statement)
 weighs-compound false cs = omega (arith, weighs-append cs exit-block)
 
-pub ruleset sums = (weighs-append, weighs-bare, weighs-separator, weighs-space-between, weighs-compound)
+pub ruleset sums = (weighs-append, weighs-bare, weighs-apart, weighs-separator, weighs-space-between, weighs-compound)

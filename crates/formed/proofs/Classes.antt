@@ -9,7 +9,8 @@ use Rattle.shapes.specs.Class.{Class, allowed, takesKind}
 use Rattle.text.specs.Tree.{FunIdentifier}
 use Rattle.text.specs.Reading.{Read, applied, nothing}
 use Rattle.formed.proofs.As.{Reads}
-use Rattle.formed.proofs.Span.{Span, Taken, map, taken}
+use Rattle.text.proofs.Span.{Span, map}
+use Rattle.formed.proofs.Span.{Taken, taken}
 use Rattle.formed.proofs.Kind.{Kind}
 use Rattle.formed.proofs.Opened.{opened}
 use Rattle.formed.proofs.Exprs.{exprs}

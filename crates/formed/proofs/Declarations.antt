@@ -10,7 +10,7 @@ use Rattle.formed.specs.Formed.{Name, IfThere, Each, Formed-parameter, F
 use Rattle.formed.proofs.Plan.{Items, items, Row, _so_, reads}
 use Rattle.formed.proofs.Plan.Plan.{give, one, several, some as some-of, _and_}
 use Rattle.formed.proofs.Optional.{maybe, maybe-holds, array-if, array-if-holds, qualification-if, qualification-if-holds}
-use Rattle.formed.proofs.Span.{Span, _then_}
+use Rattle.text.proofs.Span.{Span, _then_}
 use Rattle.formed.proofs.Kind.{Kind, by-variant}
 use Rattle.formed.proofs.Opened.{opened}
 use Rattle.formed.proofs.Types.{fields}

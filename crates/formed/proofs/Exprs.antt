@@ -9,7 +9,7 @@ use Rattle.text.specs.Reading.{unaryOp, binaryOp, assignmentOp}
 use Rattle.formed.specs.Formed.{Formed-exprs}
 use Rattle.formed.proofs.Plan.{Items, items, _so_, reads}
 use Rattle.formed.proofs.Plan.Plan.{give, one, several, _and_}
-use Rattle.formed.proofs.Span.{Span, _then_}
+use Rattle.text.proofs.Span.{Span, _then_}
 use Rattle.formed.proofs.Kind.{Kind}
 use Rattle.formed.proofs.Opened.{opened}
 

@@ -10,7 +10,7 @@ use Rattle.shapes.specs.Shape.{lastVariant}
 use Rattle.accept.specs.Check.{childrenOf}
 use Rattle.text.specs.Reading.{from, onto}
 use Rattle.formed.proofs.As.{reader, Formed, Reads, Parts}
-use Rattle.formed.proofs.Span.{Span, at}
+use Rattle.text.proofs.Span.{Span, at}
 use Rattle.formed.proofs.Faultless.{Filled}
 
 -- a record's fields in their order

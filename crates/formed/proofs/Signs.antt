@@ -1,4 +1,4 @@
--- A formed expression begins with its sign (text, specs/Joins), whatever the settings are. Assumes nothing.
+-- A formed expression begins with its sign (text, specs/Joins), whatever the settings are, and with one of few bytes. Assumes nothing.
 use mathlib.Core.Path.{_≡_, refl, sym, _∙_, ap}
 use mathlib.Core.Bool.{Bool, true, false, _&&_, _||_, cond, not, and-eq-true-iff as both}
 use mathlib.Core.List.{List, [], _∷_, _++_, append-nil}
@@ -40,9 +40,30 @@ minus = code "-"
 abbrev pub signByte : ℕ → ℕ
 signByte b = cond (eqb b plus || eqb b minus) b 0
 
--- commands whose text begins with a byte whose sign is s
+-- a byte that an expression can begin with: of a name or a number, a parenthesis or a unary operator
+abbrev pub front : ℕ → Bool
+front b = nameByte b || has b (bytes "(+-!~")
+
+name-front : (b : ℕ) → nameByte b ≡ true → front b ≡ true
+name-front b h = rw h refl
+
+digit-front : (b : ℕ) → digit b ≡ true → front b ≡ true
+unfolding nameByte
+digit-front b h = name-front b (go (letter b) (digit b) (eqb b (code "_")) h)
+  where
+    go : (l d u : Bool) → d ≡ true → l || d || u ≡ true
+    go true d u e = refl
+    go false true u e = refl
+    go false false u e = let z : _≡_ {A = ℕ} 0 1 = cc in absurd (omega arith)
+
+letter-front : (b : ℕ) → letter b ≡ true → front b ≡ true
+unfolding nameByte
+letter-front b h = name-front b (rw h refl)
+
+-- commands whose text begins with such a byte, whose sign is s
 pub record Starts (s : ℕ) (cs : List Command) : Type 0 where
   pub byte : ℕ
+  pub fronts : front byte ≡ true
   pub same : signByte byte ≡ s
   pub starts : (t : Settings) (x : FormattingState) → (bs : List ℕ) × (text t cs x ≡ byte ∷ bs)
 
@@ -51,23 +72,25 @@ infixl 20 _and-more_
 _and-more_ : {s : ℕ} {cs : List Command} → Starts s cs → (ds : List Command) → Starts s (cs ++ ds)
 _and-more_ {cs = cs} h ds = record {
   byte = h .byte;
+  fronts = h .fronts;
   same = h .same;
   starts = λ t x. (h .starts t x .0 ++ text t ds (afterAll t cs x), text-append t cs ds x ∙ ap (λ (v : List ℕ). v ++ text t ds (afterAll t cs x)) (h .starts t x .1));
 }
 
-starts-token : {s : ℕ} (k : Token) (cs : List Command) (b : ℕ) (bs : List ℕ) → spell k ≡ b ∷ bs → signByte b ≡ s → Starts s (token k ∷ cs)
+starts-token : {s : ℕ} (k : Token) (cs : List Command) (b : ℕ) (bs : List ℕ) → spell k ≡ b ∷ bs → front b ≡ true → signByte b ≡ s → Starts s (token k ∷ cs)
 unfolding text written after
-starts-token k cs b bs e h = record {
+starts-token k cs b bs e f h = record {
   byte = b;
+  fronts = f;
   same = h;
   starts = λ t x. (bs ++ text t cs x, ap (λ (v : List ℕ). v ++ text t cs x) e);
 }
 
 -- in parentheses it begins with no sign
-starts-bare : {s : ℕ} {cs : List Command} (b : Bool) → Starts s cs → Starts (sign-if b s) (bare-if b cs)
-unfolding spell symbolText
+pub starts-bare : {s : ℕ} {cs : List Command} (b : Bool) → Starts s cs → Starts (sign-if b s) (bare-if b cs)
+unfolding spell symbolText has nameByte letter digit
 starts-bare true h = h
-starts-bare false h = starts-token (Token.symbol Symbol.left-paren) _ (code "(") [] refl refl
+starts-bare false h = starts-token (Token.symbol Symbol.left-paren) _ (code "(") [] refl refl refl
 
 -- a byte that passes a test which no sign passes
 no-sign : (test : ℕ → Bool) (b : ℕ) → test plus ≡ false → test minus ≡ false → test b ≡ true → signByte b ≡ 0
@@ -83,7 +106,8 @@ name-starts [] h cs = absurd (let z : _≡_ {A = ℕ} 0 1 = cc in omega arith)
 name-starts (b ∷ bs) h cs =
     let front = both (between 1 longest-name (length (b ∷ bs)) && not (digit b) && all nameByte (b ∷ bs)) (not (oneOf fixedWords (b ∷ bs))) .0 h .0 in
     let each = both (between 1 longest-name (length (b ∷ bs)) && not (digit b)) (all nameByte (b ∷ bs)) .0 front .1 in
-    starts-token (Token.name (b ∷ bs)) cs b bs refl (no-sign nameByte b refl refl (both (nameByte b) (all nameByte bs) .0 each .0))
+    let first = both (nameByte b) (all nameByte bs) .0 each .0 in
+    starts-token (Token.name (b ∷ bs)) cs b bs refl (name-front b first) (no-sign nameByte b refl refl first)
 
 first-digit : (s : List ℕ) → Float s → (b : ℕ) × (bs : List ℕ) × (s ≡ b ∷ bs) × (digit b ≡ true)
 unfolding floatForm digits wholePart
@@ -107,7 +131,7 @@ unfolding digit
 float-starts s ds h k e =
     let f = first-digit s h in
     let p = pointed-first (f .0) (f .1) in
-    starts-token k [] (f .0) (p .0 ++ ds) (e ∙ ap (λ (v : List ℕ). pointed v ++ ds) (f .2) ∙ ap (λ (v : List ℕ). v ++ ds) (p .1)) (no-sign digit (f .0) refl refl (f .3))
+    starts-token k [] (f .0) (p .0 ++ ds) (e ∙ ap (λ (v : List ℕ). pointed v ++ ds) (f .2) ∙ ap (λ (v : List ℕ). v ++ ds) (p .1)) (digit-front (f .0) (f .3)) (no-sign digit (f .0) refl refl (f .3))
 
 number-starts : (n : ℕ) (ds : List ℕ) (k : Token) → spell k ≡ decimal n ++ ds → Starts 0 (token k ∷ [])
 unfolding digit
@@ -115,17 +139,19 @@ number-starts n ds k e = go (decimal n) (length-positive n) (all-digits n 0 (len
   where
     go : (v : List ℕ) → 1 ≤ length v → (code "0" ≤ getD v 0 0) × (getD v 0 0 ≤ code "9") → spell k ≡ v ++ ds → Starts 0 (token k ∷ [])
     go [] h d e = absurd (not-suc-le-zero h)
-    go (b ∷ bs) h d e = starts-token k [] b (bs ++ ds) e (no-sign digit b refl refl (both (leb (code "0") b) (leb b (code "9")) .1 (le-leb _ _ (d .0), le-leb _ _ (d .1))))
+    go (b ∷ bs) h d e =
+        let i : digit b ≡ true = both (leb (code "0") b) (leb b (code "9")) .1 (le-leb _ _ (d .0), le-leb _ _ (d .1)) in
+        starts-token k [] b (bs ++ ds) e (digit-front b i) (no-sign digit b refl refl i)
 
 int-starts : (n : ℕ) → Starts (cond (negative n) minus 0) (show-int n)
-unfolding spell symbolText
+unfolding spell symbolText has nameByte letter digit
 int-starts n = go (negative n)
   where
     number : Starts 0 (token (Token.int (magnitude n)) ∷ [])
     number = number-starts (magnitude n) [] (Token.int (magnitude n)) (sym (append-nil (decimal (magnitude n))))
 
     go : (b : Bool) → Starts (cond b minus 0) (cond b (token (Token.symbol Symbol.dash) ∷ token (Token.int (magnitude n)) ∷ []) (token (Token.int (magnitude n)) ∷ []))
-    go true = starts-token (Token.symbol Symbol.dash) _ minus [] refl refl
+    go true = starts-token (Token.symbol Symbol.dash) _ minus [] refl refl refl
     go false = number
 
 -- the 51 type keywords, in one computed test
@@ -143,14 +169,14 @@ keyword-starts v h = go (bytes (getD typeKeywords v "")) refl (at (λ v. with-le
   where
     go : (s : List ℕ) → bytes (getD typeKeywords v "") ≡ s → with-letter s ≡ true → Starts 0 (token (Token.type v) ∷ [])
     go [] e t = absurd (let z : _≡_ {A = ℕ} 0 1 = cc in omega arith)
-    go (b ∷ bs) e t = starts-token (Token.type v) [] b bs e (no-sign letter b refl refl t)
+    go (b ∷ bs) e t = starts-token (Token.type v) [] b bs e (letter-front b t) (no-sign letter b refl refl t)
 
 base-starts : (t : TypeSpecifierNonArray) → Formed-base t → Starts 0 (show-type-specifier-non-array t)
-unfolding Formed-base show-type-specifier-non-array spell wordText
+unfolding Formed-base show-type-specifier-non-array spell wordText nameByte letter digit
 base-starts TypeSpecifierNonArray.no-base h = absurd h
 base-starts (TypeSpecifierNonArray.Keyword v) h = keyword-starts v h
 base-starts (TypeSpecifierNonArray.TypeName i) h = name-starts i h []
-base-starts (TypeSpecifierNonArray.Struct i fs) h = starts-token (Token.word Word.struct) _ (code "s") (bytes "truct") refl refl
+base-starts (TypeSpecifierNonArray.Struct i fs) h = starts-token (Token.word Word.struct) _ (code "s") (bytes "truct") refl refl refl
 
 type-starts : (t : TypeSpecifier) → Formed-type t → Starts 0 (show-type-specifier t)
 unfolding Formed-type show-type-specifier
@@ -158,18 +184,18 @@ type-starts TypeSpecifier.no-type h = absurd h
 type-starts (TypeSpecifier.type t a) h = base-starts t (h .0) and-more _
 
 unary-starts : (op : UnaryOp) (cs : List Command) → Starts (unary-sign op) (token (Token.symbol (unary-symbol op)) ∷ cs)
-unfolding unary-sign unary-symbol spell symbolText
-unary-starts UnaryOp.Inc cs = starts-token _ cs plus (bytes "+") refl refl
-unary-starts UnaryOp.Dec cs = starts-token _ cs minus (bytes "-") refl refl
-unary-starts UnaryOp.Add cs = starts-token _ cs plus [] refl refl
-unary-starts UnaryOp.Minus cs = starts-token _ cs minus [] refl refl
-unary-starts UnaryOp.Not cs = starts-token _ cs (code "!") [] refl refl
-unary-starts UnaryOp.Complement cs = starts-token _ cs (code "~") [] refl refl
+unfolding unary-sign unary-symbol spell symbolText has nameByte letter digit
+unary-starts UnaryOp.Inc cs = starts-token _ cs plus (bytes "+") refl refl refl
+unary-starts UnaryOp.Dec cs = starts-token _ cs minus (bytes "-") refl refl refl
+unary-starts UnaryOp.Add cs = starts-token _ cs plus [] refl refl refl
+unary-starts UnaryOp.Minus cs = starts-token _ cs minus [] refl refl refl
+unary-starts UnaryOp.Not cs = starts-token _ cs (code "!") [] refl refl refl
+unary-starts UnaryOp.Complement cs = starts-token _ cs (code "~") [] refl refl refl
 
 bool-starts : (b : Bool) → Starts 0 (token (Token.word (bool-word b)) ∷ [])
-unfolding spell wordText
-bool-starts true = starts-token _ [] (code "t") (bytes "rue") refl refl
-bool-starts false = starts-token _ [] (code "f") (bytes "alse") refl refl
+unfolding spell wordText nameByte letter digit
+bool-starts true = starts-token _ [] (code "t") (bytes "rue") refl refl refl
+bool-starts false = starts-token _ [] (code "f") (bytes "alse") refl refl refl
 
 mutual
   unfolding sign show-expr Formed-expr spell

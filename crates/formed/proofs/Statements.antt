@@ -11,7 +11,7 @@ use Rattle.formed.proofs.As.{as-sort}
 use Rattle.formed.proofs.Plan.{Items, items, Row, _so_, reads}
 use Rattle.formed.proofs.Plan.Plan.{give, one, several, _and_}
 use Rattle.formed.proofs.Optional.{maybe, maybe-holds}
-use Rattle.formed.proofs.Span.{Span, _then_}
+use Rattle.text.proofs.Span.{Span, _then_}
 use Rattle.formed.proofs.Kind.{Kind, by-variant}
 use Rattle.formed.proofs.Opened.{opened}
 use Rattle.formed.proofs.Declarations.{declaration-kind}

@@ -16,7 +16,8 @@ use Rattle.formed.specs.Formed.{KeywordNumber, Name, IfThere, Formed-typ
 use Rattle.formed.proofs.Plan.{Items, items, Row, _so_, reads}
 use Rattle.formed.proofs.Plan.Plan.{give, one, several, some as some-of, _and_}
 use Rattle.formed.proofs.Optional.{array-if, array-if-holds, qualification-if, qualification-if-holds}
-use Rattle.formed.proofs.Span.{Span, _then_, at, between}
+use Rattle.text.proofs.Span.{Span, _then_, at}
+use Rattle.formed.proofs.Span.{between}
 use Rattle.formed.proofs.Kind.{Kind, Variant, by-variant}
 use Rattle.formed.proofs.Opened.{opened}
 

@@ -5,3 +5,4 @@ pub mod Order
 pub mod Rows
 pub mod Unique
 pub mod Contracts
+pub mod Shorter

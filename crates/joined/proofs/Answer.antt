@@ -2,7 +2,7 @@
 use mathlib.Core.Path.{_≡_, refl, sym, _∙_, ap}
 use mathlib.Core.Bool.{Bool, false, _||_, cond, or-false}
 use mathlib.Core.List.{List}
-use Prim.Native.Nat.{ℕ, zero, suc, _+_, _-_, _<_, _≤_}
+use Prim.Native.Nat.{ℕ, zero, suc, _+_, _-_, _<_}
 use Prim.Native.Char.{code}
 use native.Mathlib.Omega.{arith}
 use native.Mathlib.Nat.{zero-add}
@@ -23,7 +23,8 @@ use Rattle.text.proofs.ByKind.{at-kind}
 use Rattle.formed.specs.Formed.{Formed-expr}
 use Rattle.formed.proofs.Kind.{rec}
 use Rattle.joined.specs.declared.Head.{Head}
-use Rattle.joined.specs.Stack.{State, walk, bareSign, underSign, plusOrMinus, ownOf, joinsWith, joinsAt, anyJoined, additive}
+use Rattle.signs.specs.Sign.{ofUnary, ofBinary, joinsWith, additive}
+use Rattle.joined.specs.Stack.{State, walk, bareSign, underSign, ownOf, joinsAt, anyJoined}
 use Rattle.joined.proofs.Heads.{head-at}
 use Rattle.joined.proofs.Operands.{Right, of-record}
 use Rattle.joined.proofs.Own.{own-int}
@@ -36,25 +37,25 @@ module _ (rs ns : List ℕ) (byte : (p : ℕ) → getD rs p 0 < 256) where
   Alike i r = joinsAt r (before rs (i + 1) .head) (getD (before rs (i + 1) .stack) 1 0) ≡ joins-here r (from rs ns (i + 1))
 
   -- a unary operator and a Dot: the operand stands right behind
-  unary-here : (i v n a b : ℕ) → v ≤ 5 → Formed-expr (expr (from rs ns (i + 1)) .tree) → Alike i (rec 7 v n a b)
+  unary-here : (i v n a b : ℕ) → Formed-expr (expr (from rs ns (i + 1)) .tree) → Alike i (rec 7 v n a b)
   unfolding joinsAt ownOf
-  unary-here i v n a b h formed =
-      let op = plusOrMinus v 2 3 in
-      ap (λ (x : Head). joinsWith op (underSign x op)) (head-at rs ns (i + 1)) ∙ under (expr (from rs ns (i + 1)) .tree) v h ∙ sym (or-false _ ∙ or-false _)
+  unary-here i v n a b formed =
+      let op = ofUnary v in
+      ap (λ (x : Head). joinsWith op (underSign x op)) (head-at rs ns (i + 1)) ∙ under (expr (from rs ns (i + 1)) .tree) v ∙ sym (or-false _ ∙ or-false _)
 
   dot-here : (i v n a b : ℕ) → Alike i (rec 13 v n a b)
   unfolding joinsAt
   dot-here i v n a b = ap (λ (x : Head). eqb (x .own) (code ".")) (head-at rs ns (i + 1)) ∙ own-int (expr (from rs ns (i + 1)) .tree)
 
   -- a binary operator: its right operand's byte is the second of the stack
-  binary-here : (i v n a b : ℕ) → v ≤ 18 → Right rs ns i → Alike i (rec 8 v n a b)
+  binary-here : (i v n a b : ℕ) → Right rs ns i → Alike i (rec 8 v n a b)
   unfolding joinsAt
-  binary-here i v n a b h r =
-      let op = plusOrMinus v 14 15 in
+  binary-here i v n a b r =
+      let op = ofBinary v in
       ap (λ (t : List ℕ). joinsWith op (getD t 1 0)) (node-stack rs ns (r .left) Class.expr (i + 1) (r .at) (r .first))
       ∙ ap (λ (t : List ℕ). joinsWith op (getD t 0 0)) (node-stack rs ns (r .left) Class.expr (r .at) (r .next) (r .second))
       ∙ ap (λ (x : Head). joinsWith op (bareSign x additive)) (head-at rs ns (r .at))
-      ∙ right (expr (from rs ns (r .at)) .tree) v h
+      ∙ right (expr (from rs ns (r .at)) .tree) v
       ∙ ap (λ (L : List Item). joins-right (binaryOp v) (expr L .tree)) (sym (r .there))
       ∙ sym (or-false _)
 

@@ -2,17 +2,17 @@
 use mathlib.Core.Path.{_≡_, _∙_, ap}
 use mathlib.Core.Bool.{false}
 use mathlib.Core.List.{List, [], _∷_}
-use Prim.Native.Nat.{ℕ, zero, suc, _+_, _<_, _≤_}
+use Prim.Native.Nat.{ℕ, zero, suc, _+_, _<_}
 use native.Mathlib.Omega.{arith}
 use lib.Dec.{eqb}
 use lib.ListN.{getD, drop}
 use Rattle.records.specs.declared.Record.{Record}
 use Rattle.records.specs.Record.{recordAt}
 use Rattle.shapes.specs.Class.{Class}
-use Rattle.shapes.specs.Shape.{rows, lastVariant, shapeOf, classes}
+use Rattle.shapes.specs.Shape.{rows, shapeOf, classes}
 use Rattle.accept.specs.declared.Checked.the-variants.{Next}
 use Rattle.accept.specs.Check.{each, node, childrenOf}
-use Rattle.accept.proofs.Accepted.{bind-next, node-next, node-deep, no-fault-variant}
+use Rattle.accept.proofs.Accepted.{bind-next, node-next, node-deep}
 use Rattle.text.specs.Reading.{from, expr}
 use Rattle.text.proofs.At.{from-drop}
 use Rattle.text.proofs.ByKind.{at-kind}
@@ -61,18 +61,17 @@ module _ (rs ns : List ℕ) (byte : (p : ℕ) → getD rs p 0 < 256) where
       }
 
   -- what holds of unary and binary operators, and of all else, holds of each record of an accepted tree
-  module _ (Q : ℕ → Record → Type 0) (unary : (i v n a b : ℕ) → v ≤ 5 → Formed-expr (expr (from rs ns (i + 1)) .tree) → Q i (rec 7 v n a b))
-      (binary : (i v n a b : ℕ) → v ≤ 18 → Right rs ns i → Q i (rec 8 v n a b)) (other : (i k v n a b : ℕ) → eqb k 7 ≡ false → eqb k 8 ≡ false → Q i (rec k v n a b)) where
+  module _ (Q : ℕ → Record → Type 0) (unary : (i v n a b : ℕ) → Formed-expr (expr (from rs ns (i + 1)) .tree) → Q i (rec 7 v n a b))
+      (binary : (i v n a b : ℕ) → Right rs ns i → Q i (rec 8 v n a b)) (other : (i k v n a b : ℕ) → eqb k 7 ≡ false → eqb k 8 ≡ false → Q i (rec k v n a b)) where
     pub of-record : (left : ℕ) (c : Class) (i m : ℕ) → node rs ns left c i ≡ Next m → Q i (recordAt rs i)
-    unfolding rows lastVariant
     of-record zero c i m e = node-deep rs ns (Q i (recordAt rs i)) c i m e
     of-record (suc left) c i m e =
         let r = recordAt rs i in
         let x = node-next rs ns left c i m e in
-        by-kind (r .kind) (r .variant) (r .count) (r .a) (r .b) (x .2) (no-fault-variant ns (suc left) c r (x .1))
+        by-kind (r .kind) (r .variant) (r .count) (r .a) (r .b) (x .2)
       where
-        by-kind : (k v n a b : ℕ) → Children left m i k v n a b → v ≤ lastVariant k → Q i (rec k v n a b)
+        by-kind : (k v n a b : ℕ) → Children left m i k v n a b → Q i (rec k v n a b)
         by-kind k v n a b =
-            at-kind (λ k. Children left m i k v n a b → v ≤ lastVariant k → Q i (rec k v n a b)) k 7 (λ h l. unary i v n a b l (operand-formed left m i v n a b h)) λ e7.
-            at-kind (λ k. Children left m i k v n a b → v ≤ lastVariant k → Q i (rec k v n a b)) k 8 (λ h l. binary i v n a b l (right-of left m i v n a b h)) λ e8.
-            λ h l. other i k v n a b e7 e8
+            at-kind (λ k. Children left m i k v n a b → Q i (rec k v n a b)) k 7 (λ h. unary i v n a b (operand-formed left m i v n a b h)) λ e7.
+            at-kind (λ k. Children left m i k v n a b → Q i (rec k v n a b)) k 8 (λ h. binary i v n a b (right-of left m i v n a b h)) λ e8.
+            λ h. other i k v n a b e7 e8

@@ -2,16 +2,15 @@
 -- under a plus or minus, and whether a dot behind it joins. Assumes nothing.
 use mathlib.Core.Path.{_≡_, refl, sym, _∙_, ap}
 use mathlib.Core.Bool.{Bool, true, false, _&&_, cond, not}
-use Prim.Native.Nat.{ℕ, _+_}
+use Prim.Native.Nat.{ℕ}
 use Prim.Native.Char.{code}
-use native.Mathlib.Omega.{arith}
-use lib.Dec.{eqb, leb, ltb}
+use lib.Dec.{eqb, leb}
 use Rattle.words.specs.Form.{same, oneOf}
 use Rattle.words.specs.Symbol.{symbolText}
-use Rattle.records.proofs.Laws.{same-answer}
 use Rattle.text.specs.Tree.{UnaryOp, Expr}
 use Rattle.text.specs.Operator.{precedence, unary-precedence, unary-symbol, doubled, doubles, bare-operand}
 use Rattle.text.specs.Joins.{sign, sign-if, is-int}
+use Rattle.signs.proofs.Step.{up-to}
 use Rattle.formed.proofs.Signs.{plus, minus}
 use Rattle.joined.specs.declared.Head.{Head}
 use Rattle.joined.specs.Stack.{bareSign, underSign}
@@ -79,10 +78,6 @@ own-int (Expr.Dot i e) = refl
 own-int (Expr.PostInc e) = refl
 own-int (Expr.PostDec e) = refl
 own-int (Expr.Comma a b) = refl
-
--- up to a precedence is below the next
-pub up-to : (p n : ℕ) → leb p n ≡ ltb p (n + 1)
-up-to p n = same-answer p n p (n + 1) (λ h. omega arith) (λ h. omega arith)
 
 -- an operator over an expression doubles it if that is the same sign by itself
 module _ (op : UnaryOp) (s : ℕ) (h : (o : UnaryOp) → doubled op o ≡ eqb (unary-own o) s) (zero : eqb 0 s ≡ false) (dot : eqb (code ".") s ≡ false) where

@@ -2,7 +2,7 @@
 use mathlib.Core.Path.{_≡_, refl, sym, _∙_, ap}
 use mathlib.Core.Bool.{Bool, true, false, _&&_, _||_, cond, or-false, and-false}
 use mathlib.Core.List.{List, [], _∷_, _++_}
-use Prim.Native.Nat.{ℕ, zero, suc, _+_, _<_, _≤_}
+use Prim.Native.Nat.{ℕ, zero, suc, _+_, _<_}
 use native.Mathlib.Omega.{arith}
 use native.Mathlib.Nat.{zero-add}
 use lib.Dec.{eqb}
@@ -88,13 +88,13 @@ module _ (rs ns : List ℕ) (byte : (p : ℕ) → getD rs p 0 < 256) where
   abbrev Worded : ℕ → Record → Type 0
   Worded i r = joins-here r (from rs ns (i + 1)) ≡ inWords r (from rs ns (i + 1))
 
-  unary-here : (i v n a b : ℕ) → v ≤ 5 → Formed-expr (expr (from rs ns (i + 1)) .tree) → Worded i (rec 7 v n a b)
-  unary-here i v n a b h formed =
+  unary-here : (i v n a b : ℕ) → Formed-expr (expr (from rs ns (i + 1)) .tree) → Worded i (rec 7 v n a b)
+  unary-here i v n a b formed =
       let x = expr (from rs ns (i + 1)) .tree in
       ap (λ (t : Bool). t || false || false) (worded (unary-symbol (unaryOp v)) (bare-operand (unaryOp v) x) x formed)
 
-  binary-here : (i v n a b : ℕ) → v ≤ 18 → Right rs ns i → Worded i (rec 8 v n a b)
-  binary-here i v n a b h r =
+  binary-here : (i v n a b : ℕ) → Right rs ns i → Worded i (rec 8 v n a b)
+  binary-here i v n a b r =
       let x = expr (from rs ns (r .at)) .tree in
       ap (λ (L : List Item). joins-right (binaryOp v) (expr L .tree) || false) (r .there)
       ∙ ap (λ (t : Bool). t || false) (worded (binary-symbol (binaryOp v)) (bare-right (binaryOp v) x) x (r .formed))

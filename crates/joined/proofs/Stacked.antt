@@ -12,7 +12,8 @@ use Rattle.shapes.specs.Shape.{lastVariant}
 use Rattle.accept.specs.declared.Checked.the-variants.{Next}
 use Rattle.accept.specs.Check.{each, node, childrenOf}
 use Rattle.accept.proofs.Accepted.{next-is, bind-next, node-next, node-deep, no-fault-variant}
-use Rattle.joined.specs.Stack.{State, step, walk, bareSign, childCount, additive}
+use Rattle.signs.specs.Sign.{additive}
+use Rattle.joined.specs.Stack.{State, step, walk, bareSign, childCount}
 
 module _ (rs : List ℕ) where
   -- the state before record i

@@ -10,7 +10,8 @@ use lib.Seq.{getD-drop, drop-drop, drop-length}
 use Rattle.records.specs.declared.Record.{Record}
 use Rattle.records.specs.Record.{recordAt}
 use Rattle.joined.specs.declared.Head.{Head}
-use Rattle.joined.specs.Stack.{State, no-head, step, walk, headOf, bareSign, joinsAt, childCount, additive}
+use Rattle.signs.specs.Sign.{additive}
+use Rattle.joined.specs.Stack.{State, no-head, step, walk, headOf, bareSign, joinsAt, childCount}
 
 -- the second byte of a stack that begins at byte `top`, where there is none
 pub no-second : (s : List ℕ) (top : ℕ) → length s ≤ top + 1 → 0 ≡ getD (drop top s) 1 0

@@ -1,41 +1,19 @@
 -- What the walk of the joined question does with the records, from the last to the first. That its answer is the definition's (text, specs/Joined) for
 -- accepted records is shown in proofs/Answer. Assumes nothing.
-use mathlib.Core.Bool.{Bool, false, not, _&&_, _||_, cond}
+use mathlib.Core.Bool.{Bool, false, _||_, cond}
 use mathlib.Core.List.{List, [], _∷_}
 use Prim.Native.Nat.{ℕ, zero, suc, _+_}
 use Prim.Native.Char.{code}
 use lib.Dec.{eqb, ltb}
 use lib.ListN.{length, getD, drop}
-use Rattle.decimal.specs.Decimal.{negative}
 use Rattle.records.specs.declared.Record.{Record}
 use Rattle.records.specs.Record.{recordCount, recordAt}
 use Rattle.shapes.specs.Shape.{lastVariant}
 use Rattle.accept.specs.Check.{childrenOf, most-records}
-use Rattle.text.specs.Operator.{postfix-precedence, unary-precedence, binary-precedence, ternary-precedence, assignment-precedence, comma-precedence}
-use Rattle.text.specs.Reading.{binaryOp}
+use Rattle.text.specs.Operator.{unary-precedence}
 use Rattle.precedence.specs.Precedence.{precedenceOf}
+use Rattle.signs.specs.Sign.{signBefore, ofUnary, ofBinary, joinsWith, additive}
 use Rattle.joined.specs.declared.Head.{Head}
-
--- the first operand of a record is bare if it binds below this (01, "Rules of the text"); 0 where the record has none, and for a callee, which is always bare. The kinds:
--- Binary, Ternary, Assignment, Bracket, Dot, PostInc, PostDec, Comma.
-unfoldable pub firstBelow : (kind variant : ℕ) → ℕ
-firstBelow k v =
-    cond (eqb k 8) (binary-precedence (binaryOp v) + 1)
-    (cond (eqb k 9) ternary-precedence
-    (cond (eqb k 10) assignment-precedence
-    (cond (eqb k 11) (postfix-precedence + 1)
-    (cond (eqb k 13) (postfix-precedence + 1)
-    (cond (eqb k 14) postfix-precedence
-    (cond (eqb k 15) postfix-precedence
-    (cond (eqb k 16) (comma-precedence + 1) 0)))))))
-
--- a sign is its byte, and 0 is none
-
-unfoldable pub unarySign : (variant : ℕ) → ℕ
-unarySign v = cond (eqb v 0) (code "+") (cond (eqb v 1) (code "-") (cond (eqb v 2) (code "+") (cond (eqb v 3) (code "-") 0)))
-
-unfoldable pub intSign : ℕ → ℕ
-intSign a = cond (negative a) (code "-") 0
 
 -- an operand in parentheses begins with none
 unfoldable pub bareSign : Head → (below : ℕ) → ℕ
@@ -43,25 +21,14 @@ bareSign h below = cond (ltb (h .precedence) below) (h .sign) 0
 
 -- the first operand stands right behind the record
 unfoldable pub signOf : Record → (next : Head) → ℕ
-signOf r next =
-    cond (eqb (r .kind) 2) (intSign (r .a))
-    (cond (eqb (r .kind) 7) (unarySign (r .variant))
-    (cond (eqb (r .kind) 12) (next .sign) (bareSign next (firstBelow (r .kind) (r .variant)))))
-
--- the sign that an operator is, by the variants of plus and minus; 0 for all others, ++ and -- too
-unfoldable pub plusOrMinus : (variant plus minus : ℕ) → ℕ
-plusOrMinus v plus minus = cond (eqb v plus) (code "+") (cond (eqb v minus) (code "-") 0)
+signOf r next = signBefore r (next .precedence) (next .sign)
 
 -- what a record is by itself: a unary plus (variant 2) or minus (3) is its sign, an IntConst a point, and all others are 0
 unfoldable pub ownOf : (kind variant : ℕ) → ℕ
-ownOf k v = cond (eqb k 2) (code ".") (cond (eqb k 7) (plusOrMinus v 2 3) 0)
+ownOf k v = cond (eqb k 2) (code ".") (cond (eqb k 7) (ofUnary v) 0)
 
 unfoldable pub headOf : Record → (next : Head) → Head
 headOf r next = record { sign = signOf r next; precedence = precedenceOf (r .kind) (r .variant); own = ownOf (r .kind) (r .variant) }
-
--- an operator that is this sign, or none, before an operand that begins with one
-unfoldable pub joinsWith : (op sign : ℕ) → Bool
-joinsWith op s = not (eqb op 0) && eqb op s
 
 -- the sign that an operand begins with under a unary plus or minus: plus over plus and minus over minus are in parentheses
 unfoldable pub underSign : Head → (op : ℕ) → ℕ
@@ -71,7 +38,7 @@ underSign h op = cond (eqb (h .own) op) 0 (bareSign h (unary-precedence + 1))
 unfoldable pub joinsAt : Record → (next : Head) → (right : ℕ) → Bool
 joinsAt r next right =
     cond (eqb (r .kind) 7) (joinsWith (ownOf (r .kind) (r .variant)) (underSign next (ownOf (r .kind) (r .variant))))
-    (cond (eqb (r .kind) 8) (joinsWith (plusOrMinus (r .variant) 14 15) right)
+    (cond (eqb (r .kind) 8) (joinsWith (ofBinary (r .variant)) right)
     (cond (eqb (r .kind) 13) (eqb (next .own) (code ".")) false))
 
 -- none where the variant is beyond the last, which the check refuses: then the table has no row
@@ -92,10 +59,6 @@ no-head = record { sign = 0; precedence = 0; own = 0 }
 
 abbrev pub start : State
 start = record { head = no-head; stack = []; found = false }
-
--- a right operand of + and - is bare below it (01, "Rules of the text")
-abbrev pub additive : ℕ
-additive = 5
 
 abbrev pub step : Record → State → State
 step r s = record {

@@ -19,13 +19,6 @@ pub struct Head {
     pub own: u8,
 }
 
-// A sign is its byte.
-const NO_SIGN: u8 = 0;
-
-const PLUS: u8 = 43;
-
-const MINUS: u8 = 45;
-
 const POINT: u8 = 46;
 
 const MOST_RECORDS: usize = 4096;
@@ -33,52 +26,8 @@ const MOST_RECORDS: usize = 4096;
 // The parts that a row of the table has room for.
 const PARTS: usize = 4;
 
-// Below these, what binds as strongly is bare too.
-const PAST_POSTFIX: u8 = precedence::POSTFIX + 1;
-
+// Below this, what binds as strongly is bare too.
 const PAST_UNARY: u8 = precedence::UNARY + 1;
-
-const PAST_COMMA: u8 = precedence::COMMA + 1;
-
-// The first operand of a record is bare if it binds below this; 0 where a record has none. (A callee is always bare.)
-fn first_below(kind: u8, v: u8) -> u8
-    ensures { λ r. ⌜ r ≡ Stack.firstBelow kind v ⌝ }
-{
-    match kind {
-        8 => precedence::of_binary_op(v) + 1,
-        9 => precedence::TERNARY,
-        10 => precedence::ASSIGNMENT,
-        11 => PAST_POSTFIX,
-        13 => PAST_POSTFIX,
-        14 => precedence::POSTFIX,
-        15 => precedence::POSTFIX,
-        16 => PAST_COMMA,
-        _ => 0,
-    }
-}
-
-// The sign that a unary operator begins with.
-fn unary_sign(v: u8) -> u8
-    ensures { λ r. ⌜ r ≡ Stack.unarySign v ⌝ }
-{
-    match v {
-        0 => PLUS,
-        1 => MINUS,
-        2 => PLUS,
-        3 => MINUS,
-        _ => NO_SIGN,
-    }
-}
-
-// The sign of a whole number, by its 32 bits.
-fn int_sign(a: u32) -> u8
-    ensures { λ r. ⌜ r ≡ Stack.intSign a ⌝ }
-{
-    if decimal::is_negative(a) {
-        return MINUS;
-    }
-    NO_SIGN
-}
 
 // The sign that an operand begins with where it is bare if it binds below `below`; in parentheses it begins with none.
 fn bare_sign(operand: Head, below: u8) -> u8
@@ -87,43 +36,30 @@ fn bare_sign(operand: Head, below: u8) -> u8
     if operand.precedence < below {
         return operand.sign;
     }
-    NO_SIGN
+    signs::NO_SIGN
 }
 
-// The sign that the text of the expression begins with whose record this is, before another.
+// The sign that the text of the expression begins with whose record this is, before another. (What signs::goes_on and own_sign say together; one `match` is faster here.)
 fn sign_of(r: Record, next: Head) -> u8
     ensures { λ s. ⌜ s ≡ Stack.signOf r next ⌝ }
 {
     let kind = r.kind;
     match kind {
-        2 => int_sign(r.a),
-        7 => unary_sign(r.variant),
+        2 => signs::int_sign(r.a),
+        7 => signs::unary_sign(r.variant),
         12 => next.sign,
-        _ => bare_sign(next, first_below(kind, r.variant)),
+        _ => bare_sign(next, signs::first_below(kind, r.variant)),
     }
 }
 
-// The sign that an operator is, by its variant and those of plus and minus; all others are none, ++ and -- too.
-fn plus_or_minus(v: u8, plus: u8, minus: u8) -> u8
-    ensures { λ r. ⌜ r ≡ Stack.plusOrMinus v plus minus ⌝ }
-{
-    if v == plus {
-        return PLUS;
-    }
-    if v == minus {
-        return MINUS;
-    }
-    NO_SIGN
-}
-
-// What a record is by itself. (Of unary operators plus is variant 2, minus 3; of binary ones, below, 14 and 15.)
+// What a record is by itself.
 fn own_of(kind: u8, v: u8) -> u8
     ensures { λ r. ⌜ r ≡ Stack.ownOf kind v ⌝ }
 {
     match kind {
         2 => POINT,
-        7 => plus_or_minus(v, 2, 3),
-        _ => NO_SIGN,
+        7 => signs::of_unary(v),
+        _ => signs::NO_SIGN,
     }
 }
 
@@ -137,19 +73,12 @@ fn head_of(r: Record, next: Head) -> Head
     }
 }
 
-// Does an operator that is this sign, or none, join an operand that begins with `sign`?
-fn joins_with(op: u8, sign: u8) -> bool
-    ensures { λ b. ⌜ b ≡ Stack.joinsWith op sign ⌝ }
-{
-    (op != NO_SIGN) & (op == sign)
-}
-
 // The sign that an operand begins with under a unary plus or minus: plus over plus and minus over minus are in parentheses.
 fn under_sign(operand: Head, op: u8) -> u8
     ensures { λ r. ⌜ r ≡ Stack.underSign operand op ⌝ }
 {
     if operand.own == op {
-        return NO_SIGN;
+        return signs::NO_SIGN;
     }
     bare_sign(operand, PAST_UNARY)
 }
@@ -162,9 +91,9 @@ fn joins(r: Record, next: Head, right: u8) -> bool
     match kind {
         7 => {
             let op = own_of(kind, r.variant);
-            joins_with(op, under_sign(next, op))
+            signs::joins_with(op, under_sign(next, op))
         },
-        8 => joins_with(plus_or_minus(r.variant, 14, 15), right),
+        8 => signs::joins_with(signs::of_binary(r.variant), right),
         13 => next.own == POINT,
         _ => false,
     }
@@ -228,9 +157,9 @@ fn walk(t: &Shapes, records: &[u8], stack: &mut [u8], n: usize) -> bool
 {
     let mut found = false;
     let mut head = Head {
-        sign: NO_SIGN,
+        sign: signs::NO_SIGN,
         precedence: precedence::ATOMIC,
-        own: NO_SIGN,
+        own: signs::NO_SIGN,
     };
     let mut top = stack.len();
     let mut i = n;

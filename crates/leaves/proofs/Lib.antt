@@ -1,3 +1,5 @@
 pub mod Frame
 pub mod Shown
 pub mod Rows
+pub mod Operand
+pub mod Apart

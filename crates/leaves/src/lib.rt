@@ -1,19 +1,22 @@
 // What the printers write between their parts: the functions of 000 that call no other printer, and parts of those that do.
 ghost use mathlib.Core.Path.{_≡_};
 ghost use mathlib.Core.Bool.{cond};
-ghost use mathlib.Core.List.{[]};
+ghost use mathlib.Core.List.{List, [], _++_};
 ghost use mathlib.Core.Option.{none, some};
-ghost use Prim.Native.Nat.{_+_, _≤_, min};
+ghost use Prim.Native.Nat.{ℕ, _+_, _≤_, min};
 ghost use lib.Dec.{eqb};
 ghost use Rattle.word_table.specs.Table as Table;
 ghost use Rattle.words.specs.Symbol.{Symbol};
 ghost use Rattle.records.specs.Record.{recordAt, part};
 ghost use Rattle.settings.specs.declared.Settings.{Settings};
 ghost use Rattle.text.specs.Token.{Token};
+ghost use Rattle.text.specs.Asked.{Flag, flag};
+ghost use Rattle.text.specs.Asked.Flag.{spaces-where-needed, needed-operator-spaces};
 ghost use Rattle.text.specs.Command.{write-binary-op};
 ghost use Rattle.text.specs.Operator.{unary-symbol, binary-symbol, assignment-symbol};
-ghost use Rattle.text.specs.Text.{a-token, a-word, a-symbol, bool-word, separator, space-between, show-identifier, optional};
-ghost use Rattle.text.specs.Reading.{unaryOp, binaryOp, assignmentOp};
+ghost use Rattle.text.specs.Joins.{joins-under, joins-right, is-int};
+ghost use Rattle.text.specs.Text.{a-token, a-word, a-symbol, bool-word, apart, separator, space-between, show-identifier, optional};
+ghost use Rattle.text.specs.Reading.{expr, from, unaryOp, binaryOp, assignmentOp};
 ghost use Rattle.pen.specs.Promise.{Ran};
 ghost use Rattle.leaves.specs.Shown.{past};
 ghost use Rattle.leaves.specs.Operand.{mostUnder};
@@ -36,6 +39,9 @@ const LAST_QUALIFIER: u8 = 26;
 const LAST_JUMP: u8 = 3;
 
 const LAST_TYPE: u8 = 50;
+
+// What a right operand of plus and minus may bind at most and be bare.
+const BELOW_ADDITIVE: u8 = precedence::ADDITIVE - 1;
 
 // The pen behind the record that stands before it, if one stands there.
 pub fn past(pen: Pen, records: &[u8]) -> Pen
@@ -72,19 +78,73 @@ fn section_row(first: usize, last: u8, v: u8) -> usize
     first + (last as usize)
 }
 
-pub fn show_unary_op(pen: Pen, t: &Words, room: &mut [u8], v: u8) -> Pen
-    requires { ⌜ now t ≡ Table.table ⌝ }
-    ensures { λ r. ⌜ ((s : Settings) → Ran s (a-symbol (unary-symbol (unaryOp v))) (now (room .entry)) pen (now (room .exit)) r) ⌝ }
+// A unary operator. A space follows where it is asked for and the operand needs it (02, #106): the operand is at the next record, and bare if it binds at `most` or more strongly.
+// What is not asked for costs no look at the records.
+pub fn show_unary_op(
+    pen: Pen,
+    s: Settings,
+    t: &Words,
+    records: &[u8],
+    room: &mut [u8],
+    v: u8,
+    most: u8,
+) -> Pen
+    requires { ⌜ (now t ≡ Table.table) × (most ≡ mostUnder v (recordAt (now records) (pen .next))) ⌝ }
+    ensures { λ r. ⌜ ((names : List ℕ) → let e = expr (from (now (records .entry)) names (pen .next)) .tree in Ran s (a-symbol (unary-symbol (unaryOp v)) ++ apart (joins-under (unaryOp v) e) spaces-where-needed []) (now (room .entry)) pen (now (room .exit)) r) ⌝ }
 {
-    pen.write_word(room, t, section_row(rows::UNARY, LAST_UNARY, v))
+    let op = pen.write_word(room, t, section_row(rows::UNARY, LAST_UNARY, v));
+    if !s.spaces_where_needed {
+        return op;
+    }
+    if signs::joins_at(records, pen.next, signs::of_unary(v), most) {
+        return op.write_char(room, b' ');
+    }
+    op
 }
 
-pub fn show_binary_op(pen: Pen, s: Settings, t: &Words, room: &mut [u8], v: u8) -> Pen
+// A binary operator. A space follows where it is asked for, no operator space stands there, and the right operand, at the next record, needs it.
+pub fn show_binary_op(
+    pen: Pen,
+    s: Settings,
+    t: &Words,
+    records: &[u8],
+    room: &mut [u8],
+    v: u8,
+) -> Pen
     requires { ⌜ now t ≡ Table.table ⌝ }
-    ensures { λ r. ⌜ Ran s (write-binary-op (binary-symbol (binaryOp v))) (now (room .entry)) pen (now (room .exit)) r ⌝ }
+    ensures { λ r. ⌜ ((names : List ℕ) → let e = expr (from (now (records .entry)) names (pen .next)) .tree in Ran s (write-binary-op (binary-symbol (binaryOp v)) ++ apart (joins-right (binaryOp v) e) needed-operator-spaces []) (now (room .entry)) pen (now (room .exit)) r) ⌝ }
 {
     let text = word_table::row(t, section_row(rows::BINARY, LAST_BINARY, v));
-    pen.write_binary_op(room, s, text)
+    let op = pen.write_binary_op(room, s, text);
+    let asked = s.spaces_where_needed & !s.spaces_around_binary_ops;
+    if !asked {
+        return op;
+    }
+    if signs::joins_at(records, pen.next, signs::of_binary(v), BELOW_ADDITIVE) {
+        return op.write_char(room, b' ');
+    }
+    op
+}
+
+// The space before the dot behind the expression at record `at`, if it is asked for and that is an IntConst (02, #106).
+fn dot_apart(pen: Pen, records: &[u8], room: &mut [u8], at: usize, asked: bool) -> Pen
+    ensures { λ r. ⌜ ((s : Settings) (f : Flag) (names : List ℕ) → asked ≡ flag s f → Ran s (apart (is-int (expr (from (now (records .entry)) names at) .tree)) f []) (now (room .entry)) pen (now (room .exit)) r) ⌝ }
+{
+    if !asked {
+        return pen;
+    }
+    if records::kind_at(records, at) == 2 {
+        return pen.write_char(room, b' ');
+    }
+    pen
+}
+
+// The dot behind the expression at record `at`, and before it the space that is needed.
+pub fn write_dot(pen: Pen, s: Settings, records: &[u8], room: &mut [u8], at: usize) -> Pen
+    ensures { λ r. ⌜ ((names : List ℕ) → Ran s (apart (is-int (expr (from (now (records .entry)) names at) .tree)) spaces-where-needed (a-symbol Symbol.dot)) (now (room .entry)) pen (now (room .exit)) r) ⌝ }
+{
+    let behind = dot_apart(pen, records, room, at, s.spaces_where_needed);
+    behind.write_char(room, b'.')
 }
 
 pub fn show_assignment_op(pen: Pen, s: Settings, t: &Words, room: &mut [u8], v: u8) -> Pen

@@ -18,7 +18,7 @@ use Rattle.lexis.specs.Division.{begins-with}
 use Rattle.lexis.specs.Keywords.{listed}
 use Rattle.lexis.specs.Number.{number-word}
 use Rattle.lexis.specs.Glsl.{identifier-word, symbol-words, glsl-word, proper, Lexeme}
-use Rattle.lexis.proofs.Laws.{lengthens, opens, Vocabulary}
+use Rattle.lexis.proofs.Laws.{lengthens, opens, Spelling, Vocabulary}
 use Rattle.lexis.proofs.Tests.{both, either, or-left, or-right, and-both, clash}
 use Rattle.lexis.proofs.Fixed.{fixed-tokens, find, word-found, symbol-found, type-found, number-not-fixed, name-not-fixed, listed-word, type-listed, word-listed}
 use Rattle.lexis.proofs.Symbols.{symbol-listed, symbol-opens}
@@ -74,12 +74,12 @@ unwritten (b ∷ n) h k = name-not-fixed b n (both (nameByte b) (not (digit b)) 
 record Lawful (t : Token) : Type 0 where
   reads : lexeme (spell t) ≡ t
   is-word : glsl-word (spell t) ≡ true
-  longest : (b : ℕ) (more : List ℕ) → preprocessing-word (spell t ++ (b ∷ more)) ≡ true → lengthens t b ≡ true
+  longest : (b : ℕ) (more : List ℕ) → preprocessing-word (spell t ++ (b ∷ more)) ≡ true → lengthens true t b ≡ true
   begins : begins-with (opens t) (spell t) ≡ true
 
 -- names, type keywords and words; of `lengthens` and `opens` it is said what they are for such a token
 identifier-lawful :
-    (t : Token) → identifier-word (spell t) ≡ true → lexeme (spell t) ≡ t → ((b : ℕ) → nameByte b ≡ true → lengthens t b ≡ true)
+    (t : Token) → identifier-word (spell t) ≡ true → lexeme (spell t) ≡ t → ((b : ℕ) → nameByte b ≡ true → lengthens true t b ≡ true)
     → (begins-with (λ b. nameByte b && not (digit b)) (spell t) ≡ true → begins-with (opens t) (spell t) ≡ true) → Lawful t
 unfolding glsl-word
 identifier-lawful t h e l o = record {
@@ -90,13 +90,13 @@ identifier-lawful t h e l o = record {
 }
 
 listed-lawful :
-    (t : Token) → listed-word (spell t) ≡ true → find fixed-tokens (spell t) ≡ some t → ((b : ℕ) → nameByte b ≡ true → lengthens t b ≡ true)
+    (t : Token) → listed-word (spell t) ≡ true → find fixed-tokens (spell t) ≡ some t → ((b : ℕ) → nameByte b ≡ true → lengthens true t b ≡ true)
     → (begins-with (λ b. nameByte b && not (digit b)) (spell t) ≡ true → begins-with (opens t) (spell t) ≡ true) → Lawful t
 unfolding listed-word
 listed-lawful t h e = identifier-lawful t (both (identifier-word (spell t)) (listed (spell t)) h .0) (fixed-lexeme (spell t) t e)
 
 number-lawful :
-    (t : Token) → Numeral (spell t) t → ((b : ℕ) → nameByte b || eqb b (code ".") ≡ true → lengthens t b ≡ true)
+    (t : Token) → Numeral (spell t) t → ((b : ℕ) → nameByte b || eqb b (code ".") ≡ true → lengthens true t b ≡ true)
     → (begins-with digit (spell t) ≡ true → begins-with (opens t) (spell t) ≡ true) → Lawful t
 unfolding glsl-word
 number-lawful t n l o = record {
@@ -134,14 +134,18 @@ module _ (W : List ℕ → Bool) (between : Between W) where
   within : (s : List ℕ) (t : Token) → Lexeme s t → W s ≡ true
   within s t l = between .has-all s (subst (λ (r : List ℕ). glsl-word r ≡ true) (l .spells) (lawful t (l .is-proper) .is-word))
 
-  pub vocabulary : Vocabulary spell proper Lexeme W
-  vocabulary = record {
+  pub spelling : Spelling true spell proper Lexeme W
+  spelling = record {
     spells = λ t h. record { spells = refl; is-proper = h };
     longest = λ t h b more g. lawful t h .longest b more (between .has-no-other (spell t ++ (b ∷ more)) g);
+    begins = λ t h. lawful t h .begins;
+  }
+
+  pub vocabulary : Vocabulary Lexeme W
+  vocabulary = record {
     within = within;
     one = λ s t u l m. sym (lawful t (l .is-proper) .reads) ∙ ap lexeme (l .spells ∙ sym (m .spells)) ∙ lawful u (m .is-proper) .reads;
     solid = λ s t l. solid-word s (between .has-no-other s (within s t l));
-    begins = λ t h. lawful t h .begins;
   }
 
 pub glsl-wider : (s : List ℕ) → glsl-word s ≡ true → preprocessing-word s ≡ true
@@ -157,6 +161,3 @@ glsl-between = record { has-all = λ w h. h; has-no-other = glsl-wider }
 
 pub preprocessing-between : Between preprocessing-word
 preprocessing-between = record { has-all = glsl-wider; has-no-other = λ w h. h }
-
-pub glsl : Vocabulary spell proper Lexeme glsl-word
-glsl = vocabulary glsl-word glsl-between

@@ -62,16 +62,17 @@ symbol-lengthens and-assign = ""
 symbol-lengthens xor-assign = ""
 symbol-lengthens or-assign = ""
 
--- may b, right behind t, belong to a longer word than t?
-unfoldable pub lengthens : Token → ℕ → Bool
-lengthens (name n) b = nameByte b
-lengthens (Token.type v) b = nameByte b
-lengthens (int n) b = nameByte b || eqb b (code ".")
-lengthens (uint n) b = nameByte b || eqb b (code ".")
-lengthens (float t) b = nameByte b || eqb b (code ".")
-lengthens (double t) b = nameByte b || eqb b (code ".")
-lengthens (word w) b = nameByte b
-lengthens (symbol y) b = has b (bytes (symbol-lengthens y))
+-- may b, right behind t, belong to a longer word than t? A point does so behind a whole number (1.x begins with the float 1.), and behind any other number in a wide language only: 1u.x and
+-- 1.5.x are one word each to the preprocessor, but not to GLSL (what is said of GLSL alone, as 02, #107 will, takes `false`)
+unfoldable pub lengthens : (wide : Bool) → Token → ℕ → Bool
+lengthens wide (name n) b = nameByte b
+lengthens wide (Token.type v) b = nameByte b
+lengthens wide (int n) b = nameByte b || eqb b (code ".")
+lengthens wide (uint n) b = nameByte b || wide && eqb b (code ".")
+lengthens wide (float t) b = nameByte b || wide && eqb b (code ".")
+lengthens wide (double t) b = nameByte b || wide && eqb b (code ".")
+lengthens wide (word w) b = nameByte b
+lengthens wide (symbol y) b = has b (bytes (symbol-lengthens y))
 
 -- may b be the first byte of t?
 unfoldable pub opens : Token → ℕ → Bool
@@ -84,17 +85,20 @@ opens (double t) b = digit b
 opens (word w) b = nameByte b && not (digit b)
 opens (symbol y) b = not (nameByte b)
 
--- a vocabulary: how tokens are spelled, which of them are proper, which token a word is, and all words of the language
-pub record Vocabulary (spell : Token → List ℕ) (proper : Token → Bool) (L : List ℕ → Token → Type 0) (W : List ℕ → Bool) : Type 0 where
+-- how tokens are spelled, which of them are proper, which token a word is, and all words of the language: what is asked for a text of tokens to be divided into them
+pub record Spelling (wide : Bool) (spell : Token → List ℕ) (proper : Token → Bool) (L : List ℕ → Token → Type 0) (W : List ℕ → Bool) : Type 0 where
   -- a proper token's spelling is that token
   pub spells : (t : Token) → proper t ≡ true → L (spell t) t
   -- what goes on from it to a longer word begins with a byte that may
-  pub longest : (t : Token) → proper t ≡ true → (b : ℕ) (more : List ℕ) → W (spell t ++ (b ∷ more)) ≡ true → lengthens t b ≡ true
+  pub longest : (t : Token) → proper t ≡ true → (b : ℕ) (more : List ℕ) → W (spell t ++ (b ∷ more)) ≡ true → lengthens wide t b ≡ true
+  -- how a proper token begins
+  pub begins : (t : Token) → proper t ≡ true → begins-with (opens t) (spell t) ≡ true
+
+-- and what is asked for it to be divided in one way only
+pub record Vocabulary (L : List ℕ → Token → Type 0) (W : List ℕ → Bool) : Type 0 where
   -- the tokens are words
   pub within : (w : List ℕ) (t : Token) → L w t → W w ≡ true
   -- a word is one token at most
   pub one : (w : List ℕ) (t u : Token) → L w t → L w u → t ≡ u
   -- it is not empty, and no white space is first
   pub solid : (w : List ℕ) (t : Token) → L w t → begins-with (λ b. not (white-space b)) w ≡ true
-  -- how a proper token begins
-  pub begins : (t : Token) → proper t ≡ true → begins-with (opens t) (spell t) ≡ true

@@ -11,5 +11,5 @@ pub mod Numerals
 pub mod Behind
 pub mod Glsl
 pub mod Examples
-pub mod Listed
+pub mod Undivided
 pub mod Families

@@ -37,7 +37,7 @@ not-skipped : (b : ℕ) (zs w bs : List ℕ) → white-space b ≡ true → Soli
 not-skipped b zs [] bs s h q = let z : _≡_ {A = ℕ} 0 1 = cc in omega arith
 not-skipped b zs (d ∷ w) bs s h q = let e : b ≡ d = cc in let z : _≡_ {A = ℕ} 0 1 = cc in omega arith
 
-module _ {spell : Token → List ℕ} {proper : Token → Bool} {L : List ℕ → Token → Type 0} {W : List ℕ → Bool} (law : Vocabulary spell proper L W) where
+module _ {L : List ℕ → Token → Type 0} {W : List ℕ → Bool} (law : Vocabulary L W) where
   joined : (v w bs cs : List ℕ) (t u : Token) (ts us : List Token) → L v t → L w u → Longest W v bs → Longest W w cs → (bs ≡ cs → ts ≡ us) → Overlap v w bs cs → t ∷ ts ≡ u ∷ us
   joined v w bs cs t u ts us l m g h k (same i j) = let a : t ≡ u = law .one w t u (rw i at l) m in let b : ts ≡ us = k j in cc
   joined v w bs cs t u ts us l m g h k (first b more i j) = absurd (g b more cs j (law .within (v ++ (b ∷ more)) u (rw i at m)))

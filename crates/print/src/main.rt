@@ -1,6 +1,7 @@
 // Prints a unit from the files of its folder (01, "Texts to match"): settings.rec, or OPEN where it can't be opened, tree.rec and names.txt. Writes the text, or
 // the refusal's number and place. Each file goes into an array that is one byte above its limit, so that a file above it is seen and refused.
 ghost use mathlib.Core.Path.{_≡_};
+ghost use mathlib.Core.List.{[], _∷_, _++_};
 ghost use Prim.Native.Nat.{_+_, _≤_};
 ghost use lib.ListN.{length, take};
 ghost use Rattle.io.specs.Counts.{Counts};
@@ -12,9 +13,9 @@ ghost use Rattle.print.specs.Told.{refused, told, Added};
 use libc::STDOUT_FILENO;
 use settings::Settings;
 
-// The record of OPEN.
-fn open_record() -> [u8; 21]
-    ensures { λ r. ⌜ r ≡ OPEN ⌝ }
+// The record of OPEN, its byte 21 told too.
+fn open_record() -> [u8; 22]
+    ensures { λ r. ⌜ r ≡ OPEN ++ 0 ∷ [] ⌝ }
 {
     let open = Settings::open();
     open.to_bytes()
@@ -94,14 +95,14 @@ fn answer<'a, 'b>(
 }
 
 fn main() {
-    let mut settings = [0u8; 22];
+    let mut settings = [0u8; 23];
     let mut tree = [0u8; 49153];
     let mut names = [0u8; 32769];
     let mut room = [0u8; 65536];
     let mut line = [0u8; 64];
     let open = open_record();
     room::lay(&mut settings, 0, &open);
-    let settings_length = load(b"settings.rec", &mut settings, 21);
+    let settings_length = load(b"settings.rec", &mut settings, 22);
     let tree_length = load(b"tree.rec", &mut tree, 0);
     let names_length = load(b"names.txt", &mut names, 0);
     let said = answer(

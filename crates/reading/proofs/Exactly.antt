@@ -1,5 +1,5 @@
 -- `Same` is exactly "equal texts": two calls that are not refused, under the same settings, hand back equal bytes where their expressions are the same, sound or not; and where they are sound
--- and printed with spaces around operators, equal bytes tell that they are (demand 3, told-apart). Assumes nothing.
+-- and printed with spaces around operators or where they are needed, equal bytes tell that they are (demand 3, told-apart). Assumes nothing.
 use mathlib.Core.Path.{_≡_, refl, sym, ap, _∙_}
 use mathlib.Core.List.{List}
 use Prim.Native.Nat.{ℕ}
@@ -11,7 +11,7 @@ use Rattle.text.specs.Whole.{exprText}
 use Rattle.grammar.specs.Same.{Same}
 use Rattle.grammar.proofs.Alike.{same-text}
 use Rattle.glsl.specs.Printed.{exprOutcome}
-use Rattle.reading.specs.Demand3.{Call, recorded, SpacedAndSound}
+use Rattle.reading.specs.Demand3.{Call, recorded, ApartAndSound}
 use Rattle.reading.proofs.Demand3.{whole-front, in-glsl}
 
 -- what is handed back, by the settings and the expression
@@ -25,5 +25,5 @@ written-by c settings e =
 pub same-written : (c d : Call) → c .settings ≡ d .settings → Same (recorded c) (recorded d) → c .written ≡ d .written
 same-written c d e same = written-by c (d .settings) e ∙ same-text (recorded c) (recorded d) same (settingsOf (d .settings)) fresh ∙ sym (written-by d (d .settings) refl)
 
-pub exactly : (c d : Call) → SpacedAndSound c → SpacedAndSound d → c .settings ≡ d .settings → (Same (recorded c) (recorded d) → c .written ≡ d .written) × (c .written ≡ d .written → Same (recorded c) (recorded d))
+pub exactly : (c d : Call) → ApartAndSound c → ApartAndSound d → c .settings ≡ d .settings → (Same (recorded c) (recorded d) → c .written ≡ d .written) × (c .written ≡ d .written → Same (recorded c) (recorded d))
 exactly c d h k e = (same-written c d e, in-glsl .told-apart c d h k)

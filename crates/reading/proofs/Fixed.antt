@@ -11,24 +11,13 @@ use Rattle.text.proofs.Computing.{computing}
 use Rattle.grammar.specs.Same.{Same}
 use Rattle.glsl.specs.Printed.{fitted, outcome}
 use Rattle.reading.specs.Read.{IsRead}
-use Rattle.reading.specs.Demand3.{Call, recorded, SpacedAndSound, Demand3}
+use Rattle.reading.specs.Demand3.{Call, recorded, SpacedAndSound, Demand3-of-00}
 use Rattle.reading.proofs.Computing.{reading}
-use Rattle.reading.proofs.Story.{names, decremented-minus, room, bytes-below, different, open-call, open-sound}
+use Rattle.reading.proofs.Story.{names, decremented-minus, different, call, open-call, open-sound}
 
 unfoldable other-call : Call
 unfolding computing checking reading fitted outcome
-other-call = record {
-  settings = OPEN;
-  records = decremented-minus;
-  names = names;
-  room = room;
-  written = bytes "n-- - k";
-  no = 0;
-  place = 0;
-  lent = bytes-below decremented-minus refl;
-  promised = record { handed = refl; numbered = refl; placed = refl };
-  accepted = refl;
-}
+other-call = call OPEN decremented-minus names (bytes "n-- - k") refl (record { handed = refl; numbered = refl; placed = refl })
 
 other-sound : SpacedAndSound other-call
 unfolding computing checking reading fitted outcome other-call
@@ -38,7 +27,7 @@ not-same : Same (recorded other-call) (recorded open-call) → ⊥
 unfolding computing other-call open-call
 not-same = different
 
-module _ {W : List ℕ → Bool} (d : Demand3 W) where
+module _ {W : List ℕ → Bool} (d : Demand3-of-00 W) where
   pub no-shared-text : (a b : Call) → SpacedAndSound a → SpacedAndSound b → (Same (recorded a) (recorded b) → ⊥) → (text : List ℕ) → a .written ≡ text → b .written ≡ text → ⊥
   no-shared-text a b h k apart text e f = apart (d .told-apart a b h k (e ∙ sym f))
 

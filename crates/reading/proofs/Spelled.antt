@@ -8,10 +8,10 @@ use borrow.Author.Tests.{not-true}
 use Rattle.text.specs.Token.{Token, spell}
 use Rattle.lexis.specs.Division.{white-space}
 use Rattle.lexis.specs.Division.Divides.{at-end, skip}
-use Rattle.lexis.specs.Glsl.{proper, GlslDivides}
+use Rattle.lexis.specs.Glsl.{proper, glsl-word, GlslDivides}
 use Rattle.lexis.proofs.Laws.{lengthens}
 use Rattle.lexis.proofs.Tests.{both}
-use Rattle.lexis.proofs.Glsl.{glsl}
+use Rattle.lexis.proofs.Glsl.{spelling, glsl-between}
 use Rattle.sound.proofs.Clear.{Clear}
 use Rattle.sound.proofs.Parts.{taken}
 
@@ -29,19 +29,19 @@ tokens [] = []
 tokens (gap ∷ is) = tokens is
 tokens (tok t ∷ is) = t ∷ tokens is
 
--- each token is proper, and what stands behind it does not make it longer
+-- each token is proper, and what stands behind it makes it longer in no language between GLSL and the preprocessor
 abbrev clear : Token → List ℕ → Bool
 clear t [] = true
-clear t (b ∷ bs) = not (lengthens t b)
+clear t (b ∷ bs) = not (lengthens true t b)
 
 abbrev pub apart : List Item → Bool
 apart [] = true
 apart (gap ∷ is) = apart is
 apart (tok t ∷ is) = proper t && clear t (spelled is) && apart is
 
-is-clear : (t : Token) (bs : List ℕ) → clear t bs ≡ true → Clear t bs
+is-clear : (t : Token) (bs : List ℕ) → clear t bs ≡ true → Clear true t bs
 is-clear t [] h = tt
-is-clear t (b ∷ bs) h = not-true (lengthens t b) h
+is-clear t (b ∷ bs) h = not-true (lengthens true t b) h
 
 pub spelled-divides : (is : List Item) → apart is ≡ true → GlslDivides (spelled is) (tokens is)
 unfolding white-space
@@ -50,4 +50,4 @@ spelled-divides (gap ∷ is) h = skip refl (spelled-divides is h)
 spelled-divides (tok t ∷ is) h =
     let g = both (proper t && clear t (spelled is)) (apart is) h in
     let k = both (proper t) (clear t (spelled is)) (g .0) in
-    taken glsl t (k .0) (is-clear t (spelled is) (k .1)) (spelled-divides is (g .1))
+    taken (spelling glsl-word glsl-between) t (k .0) (is-clear t (spelled is) (k .1)) (spelled-divides is (g .1))

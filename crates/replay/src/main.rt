@@ -1,5 +1,5 @@
 // Replays samples of the oracle's answers about expressions, units, records' names and lent states (oracle/src/sample.rs writes them and has their format): asks the public
-// functions again, TIGHT and OPEN too, and compares answers, parts that are handed back, and every byte of the room. Reading is total: what stands beyond a sample's end reads as nothing, and then the answers differ.
+// functions again, TIGHT, OPEN and EXPORT too, and compares answers, parts that are handed back, and every byte of the room. Reading is total: what stands beyond a sample's end reads as nothing, and then the answers differ.
 ghost use mathlib.Core.Path.{_≡_};
 ghost use mathlib.Core.Bool.{_&&_, _||_, cond};
 ghost use Prim.Native.Nat.{_+_, _*_, _/_, _%_, _≤_, min};
@@ -378,19 +378,27 @@ fn is_record(settings: Settings, record: &[u8]) -> bool
     words::same(&bytes, record)
 }
 
-// The number of the first of TIGHT and OPEN that is not 01's record, 0 for none.
-fn first_other_constant() -> u32 {
+// The number of the first of TIGHT, OPEN and EXPORT that is not the documents' record with byte 21; 0 for none, as it is proved to be.
+fn first_other_constant() -> u32
+    ensures { λ r. ⌜ r ≡ 0 ⌝ }
+{
     if !is_record(
         Settings::tight(),
-        b"\x00\x00\x00\x00\x00\x00\x00\x00\x00\x00\x00\x00\x00\x00\x00\x00\x00\x00\x00\x00\x00",
+        b"\x00\x00\x00\x00\x00\x00\x00\x00\x00\x00\x00\x00\x00\x00\x00\x00\x00\x00\x00\x00\x00\x00",
     ) {
         return 1;
     }
     if !is_record(
         Settings::open(),
-        b"\x02\x04\x01\x01\x01\x01\x01\x01\x02\x02\x02\x02\x01\x02\x02\x00\x01\x01\x01\x01\x01",
+        b"\x02\x04\x01\x01\x01\x01\x01\x01\x02\x02\x02\x02\x01\x02\x02\x00\x01\x01\x01\x01\x01\x00",
     ) {
         return 2;
+    }
+    if !is_record(
+        Settings::export(),
+        b"\x00\x00\x00\x00\x00\x00\x00\x00\x00\x00\x00\x00\x00\x00\x00\x00\x00\x00\x00\x00\x00\x01",
+    ) {
+        return 3;
     }
     0
 }
@@ -407,5 +415,5 @@ fn main() {
     let mut bytes = [0u8; 524288];
     let mut room = [0u8; 16384];
     replay_all(&mut bytes, &mut room);
-    report(2, first_other_constant());
+    report(3, first_other_constant());
 }

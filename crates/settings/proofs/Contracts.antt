@@ -16,13 +16,14 @@ use prog.Wp as Wp
 use Rattle.settings.specs.declared.Settings.{Settings}
 use Rattle.settings.specs.declared.SettingsRead.{SettingsRead}
 use Rattle.settings.specs.declared.FormattingState.{FormattingState}
-use Rattle.settings.specs.Settings.{settingsOf, TIGHT, OPEN}
+use Rattle.settings.specs.Settings.{settingsOf, TIGHT, OPEN, EXPORT}
 use Rattle.settings.specs.Answer.{Reads}
 use Rattle.settings.specs.State.{fresh}
 use Rattle.settings.specs.Bytes.{settingsBytes}
 use Rattle.settings.proofs.Settings.read as Read
 use Rattle.settings.proofs.Settings.tight as Tight
 use Rattle.settings.proofs.Settings.open as Open
+use Rattle.settings.proofs.Settings.export as Export
 use Rattle.settings.proofs.Settings.to_bytes as ToBytes
 use Rattle.settings.proofs.Settings.fresh_state as FreshState
 
@@ -39,6 +40,9 @@ module _ {M : Type 1} (𝓤 : URA.URA M) (H : Wp.Heap 𝓤) (A : Atoms.Atoms �
   pub «open» : (κs : Lifetimes.Lfts 0) (a : _) (g : _) (r : Settings) (e : _) → let c = Open.clauses 𝓤 H A mem run κs a in (c .requires g ≡ ⊤ₛ) × (c .ensures g r e ≡ ⌜ r ≡ settingsOf OPEN ⌝)
   «open» κs a g r e = (refl, refl)
 
+  pub «export» : (κs : Lifetimes.Lfts 0) (a : _) (g : _) (r : Settings) (e : _) → let c = Export.clauses 𝓤 H A mem run κs a in (c .requires g ≡ ⊤ₛ) × (c .ensures g r e ≡ ⌜ r ≡ settingsOf EXPORT ⌝)
+  «export» κs a g r e = (refl, refl)
+
   pub to-bytes : (κs : Lifetimes.Lfts 0) (a : _) (g : _) (r : _) (e : _) → let c = ToBytes.clauses 𝓤 H A mem run κs a in (c .requires g ≡ ⊤ₛ) × (c .ensures g r e ≡ ⌜ r ≡ settingsBytes (a .0) ⌝)
   to-bytes κs a g r e = (refl, refl)
 
@@ -48,6 +52,6 @@ module _ {M : Type 1} (𝓤 : URA.URA M) (H : Wp.Heap 𝓤) (A : Atoms.Atoms �
 pub read-unique : {bytes : List ℕ} {r s : SettingsRead} → Reads bytes r → Reads bytes s → r ≡ s
 read-unique p q = p .answered ∙ sym (q .answered)
 
--- of tight, open, to_bytes and fresh_state, whose promises are equations
+-- of tight, open, export, to_bytes and fresh_state, whose promises are equations
 pub one-value : {A : Type 0} {x y z : A} → x ≡ z → y ≡ z → x ≡ y
 one-value e f = e ∙ sym f

@@ -4,3 +4,4 @@ pub mod Read
 pub mod Refusal
 pub mod RoundTrip
 pub mod Contracts
+pub mod Shorter

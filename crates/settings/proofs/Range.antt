@@ -1,29 +1,22 @@
 -- The walk over bytes and their limits, for any list of limits. Assumes nothing.
-use mathlib.Core.Path.{_≡_, refl, _∙_, ap}
+use mathlib.Core.Path.{_≡_, refl, _∙_}
 use mathlib.Core.List.{List, [], _∷_}
-use mathlib.Core.Bool.{true, false, _&&_, and-false, and-eq-true-iff}
+use mathlib.Core.Bool.{true, false, _&&_, and-false}
 use Prim.Native.Nat.{ℕ, suc, _≤_, _<_, _+_}
 use native.Mathlib.Numerals.{add-one}
+use native.Mathlib.Omega.{arith}
 use lib.ListN.{length, getD, drop, drop-of-length-le}
 use lib.Seq.{drop-cons}
 use lib.Dec.{leb}
 use borrow.Author.Tests.{le-leb, lt-leb}
 use Rattle.settings.specs.Settings.{inRange}
 
--- another number of bytes than of limits is out of range
-pub range-other-length : (bs ms : List ℕ) → (length bs ≡ length ms → ⊥) → inRange bs ms ≡ false
+-- more bytes than limits are out of range
+pub range-too-long : (bs ms : List ℕ) → length ms < length bs → inRange bs ms ≡ false
 unfolding inRange
-range-other-length [] [] f = absurd (f refl)
-range-other-length [] (m ∷ ms) f = refl
-range-other-length (b ∷ bs) [] f = refl
-range-other-length (b ∷ bs) (m ∷ ms) f = rw (range-other-length bs ms (λ e. f (ap suc e))) (and-false (leb b m))
-
-pub range-length : (bs ms : List ℕ) → inRange bs ms ≡ true → length bs ≡ length ms
-unfolding inRange
-range-length [] [] e = refl
-range-length [] (m ∷ ms) e = cc
-range-length (b ∷ bs) [] e = cc
-range-length (b ∷ bs) (m ∷ ms) e = ap suc (range-length bs ms (and-eq-true-iff (leb b m) (inRange bs ms) .0 e .1))
+range-too-long [] ms h = absurd (omega arith)
+range-too-long (b ∷ bs) [] h = refl
+range-too-long (b ∷ bs) (m ∷ ms) h = rw (range-too-long bs ms (omega arith)) (and-false (leb b m))
 
 -- what is left at i decides the whole: go on, refuse, or accept
 module _ (bs ms : List ℕ) (i : ℕ) where
@@ -40,6 +33,6 @@ module _ (bs ms : List ℕ) (i : ℕ) where
   pub range-stop : i < length bs → i < length ms → Left → getD ms i 0 < getD bs i 0 → inRange bs ms ≡ false
   range-stop h k e g = range-step h k e ∙ simp (lt-leb _ _ g)
 
-  pub range-done : length bs ≤ i → length ms ≤ i → Left → inRange bs ms ≡ true
+  pub range-done : length bs ≤ i → Left → inRange bs ms ≡ true
   unfolding inRange
-  range-done h k e = e ∙ rw (drop-of-length-le bs h, drop-of-length-le ms k)
+  range-done h e = e ∙ rw (drop-of-length-le bs h)

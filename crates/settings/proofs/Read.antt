@@ -1,4 +1,4 @@
--- Settings that were read are those of the bytes, and the bytes were in range. Assumes nothing.
+-- Settings that were read are those of the bytes, and the bytes were a record. Assumes nothing.
 use mathlib.Core.Path.{_≡_, refl}
 use mathlib.Core.Bool.{Bool, true, false, cond}
 use mathlib.Core.List.{List}
@@ -6,11 +6,11 @@ use Prim.Native.Nat.{ℕ}
 use native.Mathlib.Omega.{arith}
 use Rattle.settings.specs.declared.Settings.{Settings}
 use Rattle.settings.specs.declared.SettingsRead.the-variants as Answer
-use Rattle.settings.specs.Settings.{limits, inRange, settingsOf, readSettings}
+use Rattle.settings.specs.Settings.{isRecord, settingsOf, readSettings}
 
-pub read-is : (bs : List ℕ) (s : Settings) → readSettings bs ≡ Answer.Read s → (inRange bs limits ≡ true) × (settingsOf bs ≡ s)
+pub read-is : (bs : List ℕ) (s : Settings) → readSettings bs ≡ Answer.Read s → (isRecord bs ≡ true) × (settingsOf bs ≡ s)
 unfolding readSettings
-read-is bs s e = go (inRange bs limits) e
+read-is bs s e = go (isRecord bs) e
   where
     go : (b : Bool) → cond b (Answer.Read (settingsOf bs)) Answer.Refused ≡ Answer.Read s → (b ≡ true) × (settingsOf bs ≡ s)
     go true e = (refl, cc)

@@ -1,11 +1,11 @@
--- Bytes in range come back from the settings that they say, and settings with a count of at most 16 from their bytes. Assumes nothing.
+-- A record comes back from the settings that it says, with byte 21 where it had none, and settings with a count of at most 16 from their bytes. Assumes nothing.
 use mathlib.Core.Path.{_≡_, refl}
-use mathlib.Core.List.{List, [], _∷_}
+use mathlib.Core.List.{List, [], _∷_, _++_}
 use mathlib.Core.Bool.{Bool, true, false, cond, and-eq-true-iff}
-use Prim.Native.Nat.{ℕ, zero, suc, _≤_, _<_}
+use Prim.Native.Nat.{ℕ, zero, suc, _≤_, _-_}
+use native.Mathlib.Nat.{sub-zero, suc-sub-suc}
 use native.Mathlib.Omega.{arith}
-use lib.ListN.{length, getD, drop, length-drop}
-use lib.Seq.{drop-cons}
+use lib.ListN.{length, getD, replicate}
 use lib.Dec.{leb, eqb}
 use borrow.Author.Tests.{leb-true, le-leb}
 use Rattle.settings.specs.declared.IndentStyle.{IndentStyle}
@@ -14,9 +14,8 @@ use Rattle.settings.specs.declared.Whitespace.{Whitespace}
 use Rattle.settings.specs.declared.Whitespace.the-variants as White
 use Rattle.settings.specs.declared.Settings.{Settings}
 use Rattle.settings.specs.declared.SettingsRead.the-variants as Answer
-use Rattle.settings.specs.Settings.{limits, inRange, styleOf, flagOf, whitespaceOf, settingsOf, readSettings, TIGHT, OPEN}
+use Rattle.settings.specs.Settings.{limits, inRange, styleOf, flagOf, whitespaceOf, settingsOf, fewest-bytes, isRecord, readSettings, TIGHT, OPEN, EXPORT}
 use Rattle.settings.specs.Bytes.{styleByte, flagByte, whitespaceByte, settingsBytes}
-use Rattle.settings.proofs.Range.{range-length}
 
 -- a byte that was read and written again, by its limit: 1 is a flag, 2 a Whitespace, any other a number
 again : ℕ → ℕ → ℕ
@@ -42,22 +41,24 @@ all-again : List ℕ → ℕ → List ℕ → List ℕ
 all-again [] k bs = []
 all-again (m ∷ ms) k bs = again m (getD bs k 0) ∷ all-again ms (suc k) bs
 
-none-left : (bs : List ℕ) → inRange bs [] ≡ true → [] ≡ bs
-unfolding inRange
-none-left [] e = refl
-none-left (b ∷ bs) e = cc
+-- bytes that are not there come back as 0
+none-again : (ms : List ℕ) (k : ℕ) → all-again ms k [] ≡ replicate (length ms) 0
+unfolding all-again
+none-again [] k = refl
+none-again (m ∷ ms) k = simp (again-same m 0 (omega arith), none-again ms (suc k))
 
-all-same : (ms : List ℕ) (k : ℕ) (bs : List ℕ) → inRange (drop k bs) ms ≡ true → all-again ms k bs ≡ drop k bs
+one-further : (ms : List ℕ) (k b : ℕ) (bs : List ℕ) → all-again ms (suc k) (b ∷ bs) ≡ all-again ms k bs
+unfolding all-again
+one-further [] k b bs = refl
+one-further (m ∷ ms) k b bs = simp (one-further ms (suc k) b bs)
+
+all-same : (ms bs : List ℕ) → inRange bs ms ≡ true → all-again ms 0 bs ≡ bs ++ replicate (length ms - length bs) 0
 unfolding all-again inRange
-all-same [] k bs e = none-left (drop k bs) e
-all-same (m ∷ ms) k bs e =
-    let here : k < length bs = omega (arith, length-drop k bs, range-length (drop k bs) (m ∷ ms) e) in
-    let cut = drop-cons bs k 0 here in
-    let both = rw cut at e in
-    rw cut (simp (
-      again-same m (getD bs k 0) (leb-true _ _ (and-eq-true-iff (leb (getD bs k 0) m) (inRange (drop (suc k) bs) ms) .0 both .0)),
-      all-same ms (suc k) bs (and-eq-true-iff (leb (getD bs k 0) m) (inRange (drop (suc k) bs) ms) .0 both .1),
-    ))
+all-same ms [] e = simp sub-zero (none-again ms 0)
+all-same [] (b ∷ bs) e = cc
+all-same (m ∷ ms) (b ∷ bs) e =
+    let both = and-eq-true-iff (leb b m) (inRange bs ms) .0 e in
+    simp (suc-sub-suc, again-same m b (leb-true _ _ (both .0)), one-further ms 0 b bs, all-same ms bs (both .1))
 
 -- a style is written as the Whitespace of the same byte
 style-white-by : (x y : Bool) → styleByte (cond x Indent.None (cond y Indent.Tabs Indent.Spaces)) ≡ whitespaceByte (cond x White.None (cond y White.Space White.Newline))
@@ -69,9 +70,10 @@ style-white : (b : ℕ) → styleByte (styleOf b) ≡ whitespaceByte (whitespace
 unfolding styleOf whitespaceOf
 style-white b = style-white-by (eqb b 0) (eqb b 1)
 
-pub bytes-again : (bs : List ℕ) → inRange bs limits ≡ true → settingsBytes (settingsOf bs) ≡ bs
-unfolding settingsBytes settingsOf limits all-again again
-bytes-again bs e = simp (style-white (getD bs 0 0)) (all-same limits 0 bs e)
+-- a record of 22 bytes as it is, one of 21 with a 0 behind it
+pub bytes-again : (bs : List ℕ) → isRecord bs ≡ true → settingsBytes (settingsOf bs) ≡ bs ++ replicate (22 - length bs) 0
+unfolding isRecord settingsBytes settingsOf limits all-again again
+bytes-again bs e = simp (style-white (getD bs 0 0)) (all-same limits bs (and-eq-true-iff (leb fewest-bytes (length bs)) (inRange bs limits) .0 e .1))
 
 -- each byte of settings is in range, and says what it was made from
 style-low : (s : IndentStyle) → leb (styleByte s) 2 ≡ true
@@ -108,18 +110,22 @@ pub settings-again : (s : Settings) → settingsOf (settingsBytes s) ≡ s
 unfolding settingsOf settingsBytes
 settings-again s = simp (style-same, flag-same, white-same)
 
-pub settings-in-range : (s : Settings) → s .count ≤ 16 → inRange (settingsBytes s) limits ≡ true
-unfolding settingsBytes limits inRange
+pub settings-in-range : (s : Settings) → s .count ≤ 16 → isRecord (settingsBytes s) ≡ true
+unfolding settingsBytes isRecord limits inRange
 settings-in-range s h = simp (style-low, flag-low, white-low, le-leb (s .count) 16 h)
 
 pub read-again : (s : Settings) → s .count ≤ 16 → readSettings (settingsBytes s) ≡ Answer.Read s
 unfolding readSettings
 read-again s h = simp (settings-in-range s h, settings-again s)
 
-pub tight-in-range : inRange TIGHT limits ≡ true
-unfolding inRange limits
+pub tight-in-range : isRecord TIGHT ≡ true
+unfolding isRecord inRange limits
 tight-in-range = refl
 
-pub open-in-range : inRange OPEN limits ≡ true
-unfolding inRange limits
+pub open-in-range : isRecord OPEN ≡ true
+unfolding isRecord inRange limits
 open-in-range = refl
+
+pub export-in-range : isRecord EXPORT ≡ true
+unfolding isRecord inRange limits
+export-in-range = refl

@@ -1,4 +1,4 @@
--- The 21 bytes of settings (01, "Settings record"): what `to_bytes` answers; the settings are read from them again (proofs/RoundTrip). Assumes nothing.
+-- The 22 bytes of settings (01, "Settings record"; 02, #106): what `to_bytes` answers; the settings are read from them again (proofs/RoundTrip). Assumes nothing.
 use mathlib.Core.Bool.{Bool, true, false}
 use mathlib.Core.List.{List, [], _∷_}
 use Prim.Native.Nat.{ℕ}
@@ -46,4 +46,5 @@ settingsBytes s =
     ∷ flagByte (s .«space_after_for_statement_separator»)
     ∷ flagByte (s .«spaces_surrounding_initializer_list_expressions»)
     ∷ flagByte (s .«spaces_surrounding_statement_parentheses»)
+    ∷ flagByte (s .«spaces_where_needed»)
     ∷ []

@@ -1,8 +1,8 @@
--- The settings record: 21 bytes, each in range (01, "Settings record"). Assumes nothing.
+-- The settings record: 21 or 22 bytes, each in range (01, "Settings record"; 02, #106). Assumes nothing.
 use mathlib.Core.Bool.{Bool, true, false, _&&_, cond}
-use mathlib.Core.List.{List, [], _∷_}
+use mathlib.Core.List.{List, [], _∷_, _++_}
 use Prim.Native.Nat.{ℕ}
-use lib.ListN.{getD}
+use lib.ListN.{length, getD}
 use lib.Dec.{leb, eqb}
 use Rattle.settings.specs.declared.IndentStyle.{IndentStyle}
 use Rattle.settings.specs.declared.IndentStyle.the-variants as Indent
@@ -25,7 +25,7 @@ last-flag = 1
 abbrev pub last-white : ℕ
 last-white = 2
 
--- the highest value of each byte, in the order of FormattingSettings
+-- the highest value of each byte, in the order of FormattingSettings; the last is byte 21 (02, #106)
 unfoldable pub limits : List ℕ
 limits =
     last-style ∷ widest-indent
@@ -33,14 +33,21 @@ limits =
     ∷ last-white ∷ last-white ∷ last-white ∷ last-white
     ∷ last-flag
     ∷ last-white ∷ last-white
-    ∷ last-flag ∷ last-flag ∷ last-flag ∷ last-flag ∷ last-flag ∷ last-flag ∷ []
+    ∷ last-flag ∷ last-flag ∷ last-flag ∷ last-flag ∷ last-flag ∷ last-flag
+    ∷ last-flag ∷ []
 
--- as many bytes as limits, each at most its limit
+-- no more bytes than limits, each at most its limit
 unfoldable pub inRange : List ℕ → List ℕ → Bool
-inRange [] [] = true
-inRange [] (m ∷ ms) = false
+inRange [] ms = true
 inRange (b ∷ bs) [] = false
 inRange (b ∷ bs) (m ∷ ms) = leb b m && inRange bs ms
+
+-- 01's record has 21 bytes; byte 21 may follow
+abbrev pub fewest-bytes : ℕ
+fewest-bytes = 21
+
+unfoldable pub isRecord : List ℕ → Bool
+isRecord bs = leb fewest-bytes (length bs) && inRange bs limits
 
 -- a byte as an IndentStyle, a flag, a Whitespace
 unfoldable pub styleOf : ℕ → IndentStyle
@@ -52,6 +59,7 @@ flagOf b = eqb b 1
 unfoldable pub whitespaceOf : ℕ → Whitespace
 whitespaceOf b = cond (eqb b 0) White.None (cond (eqb b 1) White.Space White.Newline)
 
+-- a byte that is not there counts as 0: so 21 bytes mean 0 for byte 21
 unfoldable pub settingsOf : List ℕ → Settings
 settingsOf bs = record {
   «indent_style» = styleOf (getD bs 0 0);
@@ -75,11 +83,12 @@ settingsOf bs = record {
   «space_after_for_statement_separator» = flagOf (getD bs 18 0);
   «spaces_surrounding_initializer_list_expressions» = flagOf (getD bs 19 0);
   «spaces_surrounding_statement_parentheses» = flagOf (getD bs 20 0);
+  «spaces_where_needed» = flagOf (getD bs 21 0);
 }
 
--- the answer to 21 bytes in range, and to any others (refusal 1)
+-- the answer to a record, and to any other bytes (refusal 1)
 unfoldable pub readSettings : List ℕ → SettingsRead
-readSettings bs = cond (inRange bs limits) (Answer.Read (settingsOf bs)) Answer.Refused
+readSettings bs = cond (isRecord bs) (Answer.Read (settingsOf bs)) Answer.Refused
 
 -- 01: TIGHT and OPEN, byte for byte
 abbrev pub TIGHT : List ℕ
@@ -87,3 +96,7 @@ TIGHT = 0 ∷ 0 ∷ 0 ∷ 0 ∷ 0 ∷ 0 ∷ 0 ∷ 0 ∷ 0 ∷ 0 ∷ 0 ∷ 0 ∷ 
 
 abbrev pub OPEN : List ℕ
 OPEN = 2 ∷ 4 ∷ 1 ∷ 1 ∷ 1 ∷ 1 ∷ 1 ∷ 1 ∷ 2 ∷ 2 ∷ 2 ∷ 2 ∷ 1 ∷ 2 ∷ 2 ∷ 0 ∷ 1 ∷ 1 ∷ 1 ∷ 1 ∷ 1 ∷ []
+
+-- 02, #106: TIGHT that keeps the spaces it needs; the name is ours, for what an export should use
+abbrev pub EXPORT : List ℕ
+EXPORT = TIGHT ++ 1 ∷ []

@@ -1,9 +1,10 @@
 // The settings of the text, and the state that goes with them: 000's IndentStyle, Whitespace, FormattingSettings and FormattingState.
 ghost use mathlib.Core.Path.{_≡_};
-ghost use lib.ListN.{length};
+ghost use Prim.Native.Nat.{_≤_};
+ghost use lib.ListN.{length, getD};
 ghost use Rattle.settings.specs.Answer.{Reads};
 ghost use Rattle.settings.specs.Bytes.{styleByte, flagByte, whitespaceByte, settingsBytes};
-ghost use Rattle.settings.specs.Settings.{inRange, styleOf, whitespaceOf, settingsOf, TIGHT, OPEN};
+ghost use Rattle.settings.specs.Settings.{fewest-bytes, inRange, styleOf, flagOf, whitespaceOf, settingsOf, TIGHT, OPEN, EXPORT};
 ghost use Rattle.settings.specs.State.{fresh};
 
 // What a level is indented with. (000 keeps the count in here; a record may give a count without a style, so it is a field beside. 000's tab_size is never read.)
@@ -19,7 +20,7 @@ pub enum Whitespace {
     Newline,
 }
 
-// A field for each byte of the settings record, in its order, under the names of 000.
+// A field for each byte of the settings record, in its order, under the names of 000; the last is not of 000.
 pub struct Settings {
     pub indent_style: IndentStyle,
     pub count: u8,
@@ -42,6 +43,8 @@ pub struct Settings {
     pub space_after_for_statement_separator: bool,
     pub spaces_surrounding_initializer_list_expressions: bool,
     pub spaces_surrounding_statement_parentheses: bool,
+    // A space stands where two tokens would be read as one, if no other stands there (02, #106).
+    pub spaces_where_needed: bool,
 }
 
 // The answer to bytes that are asked to be a settings record. specs/Answer.antt gives 01's number of each case.
@@ -66,8 +69,11 @@ const FLAG: u8 = 1;
 
 const WHITE: u8 = 2;
 
+// A settings record has 21 bytes, or 22.
+const FEWEST_BYTES: usize = 21;
+
 // The highest value of each byte of a settings record, in the order of the fields.
-const LIMITS: [u8; 21] = [
+const LIMITS: [u8; 22] = [
     STYLE,
     WIDEST_INDENT,
     FLAG,
@@ -89,17 +95,18 @@ const LIMITS: [u8; 21] = [
     FLAG,
     FLAG,
     FLAG,
+    FLAG,
 ];
 
-// Whether there are as many bytes as limits, each at most its limit.
+// Whether there are no more bytes than limits, each at most its limit.
 fn in_range(bytes: &[u8], limits: &[u8]) -> bool
     ensures { λ r. ⌜ r ≡ inRange (now (bytes .entry)) (now (limits .entry)) ⌝ }
 {
-    if bytes.len() != limits.len() {
+    if limits.len() < bytes.len() {
         return false;
     }
     let mut k = 0;
-    while k < limits.len() {
+    while k < bytes.len() {
         if limits[k] < bytes[k] {
             return false;
         }
@@ -130,6 +137,16 @@ fn whitespace_of(byte: u8) -> Whitespace
         return Whitespace::Space;
     }
     Whitespace::Newline
+}
+
+// The flag at a place; behind the end there is none.
+fn flag_at(bytes: &[u8], k: usize) -> bool
+    ensures { λ r. ⌜ r ≡ flagOf (getD (now (bytes .entry)) k 0) ⌝ }
+{
+    if bytes.len() <= k {
+        return false;
+    }
+    bytes[k] == 1
 }
 
 fn style_byte(style: IndentStyle) -> u8
@@ -185,6 +202,7 @@ impl Settings {
         space_after_for_statement_separator: false,
         spaces_surrounding_initializer_list_expressions: false,
         spaces_surrounding_statement_parentheses: false,
+        spaces_where_needed: false,
     };
 
     // 01's OPEN: everything apart, four spaces a level, no collapse.
@@ -210,6 +228,13 @@ impl Settings {
         space_after_for_statement_separator: true,
         spaces_surrounding_initializer_list_expressions: true,
         spaces_surrounding_statement_parentheses: true,
+        spaces_where_needed: false,
+    };
+
+    // What an export should use (02, #106): TIGHT that keeps the spaces it needs.
+    pub const EXPORT: Settings = Settings {
+        spaces_where_needed: true,
+        ..Settings::TIGHT
     };
 
     // The constants with a contract: a caller's proof sees a function's promise, not a constant's value.
@@ -225,9 +250,15 @@ impl Settings {
         Settings::OPEN
     }
 
-    // The settings that a record says. Only `read` calls it, after the test of range.
+    pub fn export() -> Settings
+        ensures { λ r. ⌜ r ≡ settingsOf EXPORT ⌝ }
+    {
+        Settings::EXPORT
+    }
+
+    // The settings that a record says. Only `read` calls it, after the tests of length and range.
     fn of(bytes: &[u8]) -> Settings
-        requires { ⌜ length (now bytes) ≡ 21 ⌝ }
+        requires { ⌜ fewest-bytes ≤ length (now bytes) ⌝ }
         ensures { λ r. ⌜ r ≡ settingsOf (now (bytes .entry)) ⌝ }
     {
         Settings {
@@ -252,6 +283,7 @@ impl Settings {
             space_after_for_statement_separator: bytes[18] == 1,
             spaces_surrounding_initializer_list_expressions: bytes[19] == 1,
             spaces_surrounding_statement_parentheses: bytes[20] == 1,
+            spaces_where_needed: flag_at(bytes, 21),
         }
     }
 
@@ -259,6 +291,9 @@ impl Settings {
     pub fn read(bytes: &[u8]) -> SettingsRead
         ensures { λ r. ⌜ Reads (now (bytes .entry)) r ⌝ }
     {
+        if bytes.len() < FEWEST_BYTES {
+            return SettingsRead::Refused;
+        }
         // Lent as a local: indexed in place, the constant would be rebuilt at every step.
         let limits = LIMITS;
         if in_range(bytes, &limits) {
@@ -268,7 +303,7 @@ impl Settings {
     }
 
     // The settings record that says these settings: `read` reads them from it, if the count is at most 16.
-    pub fn to_bytes(self) -> [u8; 21]
+    pub fn to_bytes(self) -> [u8; 22]
         ensures { λ r. ⌜ r ≡ settingsBytes self ⌝ }
     {
         let indent_style = self.indent_style;
@@ -300,6 +335,7 @@ impl Settings {
             flag_byte(self.space_after_for_statement_separator),
             flag_byte(self.spaces_surrounding_initializer_list_expressions),
             flag_byte(self.spaces_surrounding_statement_parentheses),
+            flag_byte(self.spaces_where_needed),
         ]
     }
 

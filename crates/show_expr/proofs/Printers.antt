@@ -17,11 +17,14 @@ use Rattle.records.specs.Record.{recordAt, recordCount, part, textOf}
 use Rattle.records.proofs.Laws.{split, if-not}
 use Rattle.settings.specs.declared.Settings.{Settings}
 use Rattle.text.specs.Token.{Token, spell}
+use Rattle.text.specs.Asked.{Flag}
+use Rattle.text.specs.Asked.Flag.{spaces-where-needed, needed-operator-spaces}
 use Rattle.text.specs.Command.{Command, write-binary-op, write-binary-token, write-list-separator, write-struct-field-separator, enter-block, exit-block}
-use Rattle.text.specs.Command.Command.{flush-line}
+use Rattle.text.specs.Command.Command.{space-if, flush-line}
 use Rattle.text.specs.Tree.{Expr, Exprs, FunIdentifier, TypeSpecifier, TypeSpecifierNonArray, TypeSpecifiers, ArraySpecifierDimension, StructFieldSpecifier, StructFieldSpecifiers, ArrayedIdentifier, ArrayedIdentifiers, Qualification, TypeQualifierSpec, LayoutQualifier, LayoutQualifierSpec}
 use Rattle.text.specs.Operator.{precedence, binary-precedence, unary-precedence, doubles, unary-symbol, binary-symbol, assignment-symbol}
-use Rattle.text.specs.Text.{a-token, a-word, a-symbol, a-space, bare-if, without-types, show-type-specifier-non-array, show-type-specifier, show-type-specifiers, show-struct-fields, show-struct-field, show-array-spec, show-dimension, show-arrayed-identifier, show-arrayed-identifiers, show-qualification, show-type-qualifier, show-type-qualifier-spec, show-layout-ids, show-layout-qualifier-spec, show-expr, show-exprs, show-function-identifier, show-identifier, optional}
+use Rattle.text.specs.Joins.{joins-under, joins-right, is-int}
+use Rattle.text.specs.Text.{apart, a-token, a-word, a-symbol, a-space, bare-if, without-types, show-type-specifier-non-array, show-type-specifier, show-type-specifiers, show-struct-fields, show-struct-field, show-array-spec, show-dimension, show-arrayed-identifier, show-arrayed-identifiers, show-qualification, show-type-qualifier, show-type-qualifier-spec, show-layout-ids, show-layout-qualifier-spec, show-expr, show-exprs, show-function-identifier, show-identifier, optional}
 use Rattle.text.specs.Reading.{Item, Read, Reader, first, nothing, made, give, counted, _and_, several, from, itemOf, typeOf, dimensionOf, fieldOf, identifierOf, specOf, layoutIdOf, unaryOp, binaryOp, assignmentOp, storageOf, expr, type, base, array, dimension, field, identifier, qualifier, spec, layout-id, callee, array-if, qualification-if}
 use Rattle.text.proofs.At.{expr-at, first-out}
 use Rattle.pen.specs.declared.Pen.{Pen}
@@ -33,10 +36,11 @@ use Rattle.leaves.specs.Shown.{past, Shown, Shows}
 use Rattle.leaves.specs.Operand.{mostUnder}
 use Rattle.leaves.specs.Qualifier.{qualifierWord}
 use Rattle.leaves.proofs.Rows.{by-operator}
+use Rattle.leaves.proofs.Operand.{under-sign}
 use Rattle.leaves.proofs.Shown.{_thus_, nothing-shown, wrote, told, reads, opened, passed, standing, entered}
 use Rattle.show_expr.specs.Rest.{Choice, choice, showQuestion, showChoice}
 use Rattle.show_expr.proofs.Grouped.{ternary-of, ternary-grouped}
-use Rattle.show_expr.proofs.Most.{operand, below, under-sign, bracketed}
+use Rattle.show_expr.proofs.Most.{operand, below, bracketed}
 use Rattle.show_expr.proofs.Parts.{Partway, piece, begin, _writes_, _shows_, so, plain, only}
 use Rattle.show_expr.proofs.At.{as-kind, word-spec, word-row, word-shown, called-type, called-expr}
 
@@ -61,6 +65,14 @@ sign-at : (rs ns : List ℕ) (i j v most : ℕ) → most ≡ mostUnder v (record
     → leb (precedence (expr (from rs ns j) .tree)) most ≡ leb (precedence (expr (from rs ns j) .tree)) unary-precedence && not (doubles (unaryOp v) (expr (from rs ns j) .tree))
 sign-at rs ns i j v most m h =
     rw (h, m, expr-at rs ns i) (under-sign ns (recordAt rs i) (from rs ns (i + 1)) v)
+
+-- a space that is needed stands before what follows
+seam : (cs : List Command) (j : Bool) (f : Flag) (ds : List Command) → cs ++ apart j f [] ++ ds ≡ cs ++ apart j f ds
+seam cs true f ds = append-assoc cs (space-if f ∷ []) ds
+seam cs false f ds = append-assoc cs [] ds
+
+long-seam : (bs cs : List Command) (j : Bool) (f : Flag) (ds : List Command) → bs ++ (cs ++ apart j f []) ++ ds ≡ bs ++ cs ++ apart j f ds
+long-seam bs cs j f ds = append-assoc bs (cs ++ apart j f []) ds ∙ ap (λ (l : List Command). bs ++ l) (seam cs j f ds) ∙ sym (append-assoc bs cs (apart j f ds))
 
 -- how strongly the expression binds that is read where its record was read
 precedence-here : (rs ns : List ℕ) (i j : ℕ) {k v q : ℕ} → i ≡ j → k ≡ recordAt rs i .kind → v ≡ recordAt rs i .variant → q ≡ precedenceOf k v → precedence (expr (from rs ns j) .tree) ≡ q
@@ -233,13 +245,19 @@ module _ (rs ns : List ℕ) {s : Settings} where
         reads show-function-identifier callee rs ns _ (called-expr rs ns (p₀ .next) refl h k) refl refl (only rs ns FunIdentifier.OfExpr expr show-expr show-function-identifier (λ x. refl) (plain rs ns a))
 
     -- a unary operator and its operand
-    pub unary-parts : (v : ℕ) {most : ℕ} {room₂ : List ℕ} {p₂ : Pen} → Ran s (a-symbol (unary-symbol (unaryOp v))) room₀ p₀ room₂ p₂ → most ≡ mostUnder v (recordAt rs (p₀ .next))
+    pub unary-parts : (v : ℕ) {most : ℕ} {room₂ : List ℕ} {p₂ : Pen}
+        → ((names : List ℕ) → Ran s (a-symbol (unary-symbol (unaryOp v)) ++ apart (joins-under (unaryOp v) (expr (from rs names (p₀ .next)) .tree)) spaces-where-needed []) room₀ p₀ room₂ p₂)
+        → most ≡ mostUnder v (recordAt rs (p₀ .next))
         → Shows (operand most) expr s rs ns room₂ p₂ room₁ p₁ → Shows show-expr (give (Expr.Unary (unaryOp v)) and expr) s rs ns room₀ p₀ room₁ p₁
     unfolding show-expr
     unary-parts v {most = most} {p₂ = p₂} o m a =
+        let y = unary-symbol (unaryOp v) in
         let e = expr (from rs ns (p₂ .next)) .tree in
-        so show-expr (begin (Expr.Unary (unaryOp v)) writes wrote o shows piece (operand most) expr a)
-        (ap (λ (b : Bool). a-symbol (unary-symbol (unaryOp v)) ++ bare-if b (show-expr e)) (sign-at rs ns (p₀ .next) (p₂ .next) v most m (omega (arith, wrote o .next))))
+        let same : p₂ .next ≡ p₀ .next = omega (arith, wrote (o ns) .next) in
+        so show-expr (begin (Expr.Unary (unaryOp v)) writes wrote (o ns) shows piece (operand most) expr a)
+        (seam (a-symbol y) (joins-under (unaryOp v) (expr (from rs ns (p₀ .next)) .tree)) spaces-where-needed (operand most e)
+        ∙ ap (λ (i : ℕ). a-symbol y ++ apart (joins-under (unaryOp v) (expr (from rs ns i) .tree)) spaces-where-needed (operand most e)) (sym same)
+        ∙ ap (λ (b : Bool). a-symbol y ++ apart (joins-under (unaryOp v) e) spaces-where-needed (bare-if b (show-expr e))) (sign-at rs ns (p₀ .next) (p₂ .next) v most m same))
 
     module _ {room₂ : List ℕ} {p₂ : Pen} where
       pub post-parts : (down : Bool) → Shows (operand 1) expr s rs ns room₀ p₀ room₂ p₂ → Ran s (a-symbol (cond down Symbol.dec-op Symbol.inc-op)) room₂ p₂ room₁ p₁
@@ -262,15 +280,20 @@ module _ (rs ns : List ℕ) {s : Settings} where
           (ap (λ (c : Bool). operand 17 x ++ write-list-separator ++ bare-if c (show-expr y)) (below (precedence y) 17 (omega arith)))
 
       pub binary-parts : (v : ℕ) {q : ℕ} {room₃ : List ℕ} {p₃ : Pen} → (q ≡ binary-precedence (binaryOp v)) × (1 ≤ q) × (q ≤ 14) → Shows (operand q) expr s rs ns room₀ p₀ room₂ p₂
-          → Ran s (write-binary-op (binary-symbol (binaryOp v))) room₂ p₂ room₃ p₃ → Shows (operand (q - 1)) expr s rs ns room₃ p₃ room₁ p₁
+          → ((names : List ℕ) → Ran s (write-binary-op (binary-symbol (binaryOp v)) ++ apart (joins-right (binaryOp v) (expr (from rs names (p₂ .next)) .tree)) needed-operator-spaces []) room₂ p₂ room₃ p₃)
+          → Shows (operand (q - 1)) expr s rs ns room₃ p₃ room₁ p₁
           → Shows show-expr (give (Expr.Binary (binaryOp v)) and expr and expr) s rs ns room₀ p₀ room₁ p₁
       unfolding show-expr
       binary-parts v {q = q} {p₃ = p₃} h a o b =
+          let op = write-binary-op (binary-symbol (binaryOp v)) in
           let x = expr (from rs ns (p₀ .next)) .tree in
           let y = expr (from rs ns (p₃ .next)) .tree in
-          so show-expr (begin (Expr.Binary (binaryOp v)) shows piece (operand q) expr a writes wrote o shows piece (operand (q - 1)) expr b)
-          (ap (λ (c : Bool). operand q x ++ write-binary-op (binary-symbol (binaryOp v)) ++ bare-if c (show-expr y)) (below (precedence y) q (h .1))
-          ∙ ap (λ (n : ℕ). operand n x ++ write-binary-op (binary-symbol (binaryOp v)) ++ bare-if (ltb (precedence y) n) (show-expr y)) (h .0))
+          let same : p₃ .next ≡ p₂ .next = omega (arith, wrote (o ns) .next) in
+          so show-expr (begin (Expr.Binary (binaryOp v)) shows piece (operand q) expr a writes wrote (o ns) shows piece (operand (q - 1)) expr b)
+          (long-seam (operand q x) op (joins-right (binaryOp v) (expr (from rs ns (p₂ .next)) .tree)) needed-operator-spaces (operand (q - 1) y)
+          ∙ ap (λ (i : ℕ). operand q x ++ op ++ apart (joins-right (binaryOp v) (expr (from rs ns i) .tree)) needed-operator-spaces (operand (q - 1) y)) (sym same)
+          ∙ ap (λ (c : Bool). operand q x ++ op ++ apart (joins-right (binaryOp v) y) needed-operator-spaces (bare-if c (show-expr y))) (below (precedence y) q (h .1))
+          ∙ ap (λ (n : ℕ). operand n x ++ op ++ apart (joins-right (binaryOp v) y) needed-operator-spaces (bare-if (ltb (precedence y) n) (show-expr y))) (h .0))
 
       pub assign-parts : (v : ℕ) {room₃ : List ℕ} {p₃ : Pen} → Shows (operand 15) expr s rs ns room₀ p₀ room₂ p₂
           → Ran s (write-binary-op (assignment-symbol (assignmentOp v))) room₂ p₂ room₃ p₃ → Shows (operand 16) expr s rs ns room₃ p₃ room₁ p₁
@@ -290,12 +313,12 @@ module _ (rs ns : List ℕ) {s : Settings} where
           (begin Expr.Bracket shows piece (operand 2) expr a writes put (Token.symbol Symbol.left-bracket) refl o shows piece show-expr expr (plain rs ns b) writes put (Token.symbol Symbol.right-bracket) refl c)
           (enclosed (operand 2 (expr (from rs ns (p₀ .next)) .tree)) (a-symbol Symbol.left-bracket) (show-expr (expr (from rs ns (p₃ .next)) .tree)) (a-symbol Symbol.right-bracket))
 
-      pub dot-parts : (a b : ℕ) {room₃ : List ℕ} {p₃ : Pen} → Shows (operand 2) expr s rs ns room₀ p₀ room₂ p₂ → Wrote (bytes ".") room₂ p₂ room₃ p₃ → Wrote (part ns a b) room₃ p₃ room₁ p₁
+      pub dot-parts : (a b : ℕ) {room₃ : List ℕ} {p₃ : Pen} → Shows (operand 2) expr s rs ns room₀ p₀ room₂ p₂
+          → ((names : List ℕ) → Ran s (apart (is-int (expr (from rs names (p₀ .next)) .tree)) spaces-where-needed (a-symbol Symbol.dot)) room₂ p₂ room₃ p₃)
+          → Wrote (part ns a b) room₃ p₃ room₁ p₁
           → Shows show-expr (give (Expr.Dot (part ns a b)) and expr) s rs ns room₀ p₀ room₁ p₁
-      unfolding show-expr spell symbolText
-      dot-parts a b x o w =
-          so show-expr
-          (begin (Expr.Dot (part ns a b)) shows piece (operand 2) expr x writes put (Token.symbol Symbol.dot) refl o writes put (Token.name (part ns a b)) refl w) refl
+      unfolding show-expr spell
+      dot-parts a b x o w = so show-expr (begin (Expr.Dot (part ns a b)) shows piece (operand 2) expr x writes wrote (o ns) writes put (Token.name (part ns a b)) refl w) refl
 
       pub question-parts : Shows (operand 14) expr s rs ns room₀ p₀ room₂ p₂ → Ran s (write-binary-token (Token.name (bytes "?"))) room₂ p₂ room₁ p₁ → Shows showQuestion expr s rs ns room₀ p₀ room₁ p₁
       unfolding spell symbolText

@@ -451,16 +451,9 @@ fn unary(
     requires { ⌜ now t ≡ Table.table ⌝ }
     ensures { λ r. ⌜ Shows show-expr (give (Expr.Unary (unaryOp v)) and Reading.expr) s (now (records .entry)) (now (names .entry)) (now (room .entry)) pen (now (room .exit)) r ⌝ }
 {
-    let op = leaves::show_unary_op(pen, t, room, v);
-    expr(
-        s,
-        t,
-        records,
-        names,
-        room,
-        op,
-        leaves::unary_most(records, pen.next, v),
-    )
+    let most = leaves::unary_most(records, pen.next, v);
+    let op = leaves::show_unary_op(pen, s, t, records, room, v, most);
+    expr(s, t, records, names, room, op, most)
 }
 
 // In show_expr: Binary.
@@ -478,7 +471,7 @@ fn binary(
 {
     let precedence = precedence::of_binary_op(v);
     let left = expr(s, t, records, names, room, pen, precedence);
-    let op = leaves::show_binary_op(left, s, t, room, v);
+    let op = leaves::show_binary_op(left, s, t, records, room, v);
     expr(s, t, records, names, room, op, precedence - 1)
 }
 
@@ -609,7 +602,7 @@ fn dot(
     ensures { λ r. ⌜ Shows show-expr (give (Expr.Dot (part (now (names .entry)) a b)) and Reading.expr) s (now (records .entry)) (now (names .entry)) (now (room .entry)) pen (now (room .exit)) r ⌝ }
 {
     let of = expr(s, t, records, names, room, pen, precedence::POSTFIX);
-    let dotted = of.write_char(room, b'.');
+    let dotted = leaves::write_dot(of, s, records, room, pen.next);
     dotted.write_name(room, names, a, b)
 }
 

@@ -1,25 +1,26 @@
--- Which bytes may stand right behind a token without making it a longer word. Assumes nothing.
-use mathlib.Core.Path.{_≡_, refl, sym, ap, _∙_}
-use mathlib.Core.Bool.{Bool, true, false, not, _&&_, _||_, cond}
+-- Which bytes may stand right behind a token without making it a longer word, in a wide language or in another (lexis, proofs/Laws). Assumes nothing.
+use mathlib.Core.Path.{_≡_, refl, sym, ap, subst, _∙_}
+use mathlib.Core.Bool.{Bool, true, false, not, _&&_, _||_, cond, and-false}
 use mathlib.Core.List.{List, [], _∷_, _++_}
 use Prim.Native.Nat.{ℕ}
 use Prim.Native.Char.{code}
 use native.Mathlib.Omega.{arith}
 use lib.Dec.{eqb}
-use borrow.Author.Tests.{eqb-true}
+use borrow.Author.Tests.{eqb-true, eqb-false, ne-eqb, not-true}
 use Rattle.words.specs.Bytes.{bytes}
+use Rattle.words.specs.Form.{same, oneOf}
 use Rattle.words.specs.Letter.{letter, digit, nameByte}
 use Rattle.words.specs.Symbol.{Symbol, symbolText}
-use Rattle.words.specs.Symbol.Symbol.{dot, inc-op, dec-op, tilde}
-use Rattle.words.specs.Form.{same, oneOf}
+use Rattle.words.specs.Symbol.Symbol.{dot, inc-op, dec-op, plus, dash, bang, tilde}
 use Rattle.text.specs.Token.{Token, has}
 use Rattle.text.specs.Token.Token.{name, int, uint, float, double, word, symbol}
-use Rattle.text.specs.Tree.{UnaryOp, Expr}
-use Rattle.text.specs.Operator.{unary-symbol, doubled}
+use Rattle.text.specs.Tree.{UnaryOp, BinaryOp, AssignmentOp}
+use Rattle.text.specs.Operator.{binary-op, binary-symbol, unary-symbol, assignment-symbol, reads-as-one}
+use Rattle.formed.proofs.Signs.{front, signByte}
 use Rattle.lexis.specs.Division.{begins-with}
+use Rattle.lexis.proofs.Tests.{both}
 use Rattle.lexis.proofs.Symbols.{space-behind}
 use Rattle.lexis.proofs.Laws.{symbol-lengthens, lengthens}
-use Rattle.sound.specs.Sound.{Mixed, Unmixed}
 
 pub false-true : {A : Type 0} → _≡_ {A = Bool} false true → A
 false-true e = let z : _≡_ {A = ℕ} 0 1 = cc in absurd (omega arith)
@@ -28,66 +29,76 @@ pub true-false : {A : Type 0} → _≡_ {A = Bool} true false → A
 true-false e = false-true (sym e)
 
 -- nothing behind t makes it longer
-abbrev pub Clear : Token → List ℕ → Type 0
-Clear t [] = Unit
-Clear t (b ∷ bs) = lengthens t b ≡ false
+abbrev pub Clear : (wide : Bool) → Token → List ℕ → Type 0
+Clear wide t [] = Unit
+Clear wide t (b ∷ bs) = lengthens wide t b ≡ false
 
 -- a space never does
-pub space-clear : (t : Token) → lengthens t (code " ") ≡ false
+pub space-clear : (wide : Bool) (t : Token) → lengthens wide t (code " ") ≡ false
 unfolding lengthens nameByte letter digit
-space-clear (name n) = refl
-space-clear (Token.type v) = refl
-space-clear (int n) = refl
-space-clear (uint n) = refl
-space-clear (float t) = refl
-space-clear (double t) = refl
-space-clear (word w) = refl
-space-clear (symbol y) = space-behind y
+space-clear wide (name n) = refl
+space-clear wide (Token.type v) = refl
+space-clear wide (int n) = refl
+space-clear wide (uint n) = and-false wide
+space-clear wide (float t) = and-false wide
+space-clear wide (double t) = and-false wide
+space-clear wide (word w) = refl
+space-clear wide (symbol y) = space-behind y
 
--- what the last token of a text can be; a number only where `number` says so
-abbrev pub Ends : (number : Bool) → Token → Type 0
-Ends n (name i) = Unit
-Ends n (Token.type v) = Unit
-Ends n (int k) = n ≡ true
-Ends n (uint k) = n ≡ true
-Ends n (float t) = n ≡ true
-Ends n (double t) = n ≡ true
-Ends n (word w) = Unit
-Ends n (symbol y) = symbol-lengthens y ≡ ""
+-- what the last token of a text can be; a whole number, or another number, only where `whole` or `other` says so
+abbrev pub Ends : (whole other : Bool) → Token → Type 0
+Ends i o (name n) = Unit
+Ends i o (Token.type v) = Unit
+Ends i o (int k) = i ≡ true
+Ends i o (uint k) = o ≡ true
+Ends i o (float t) = o ≡ true
+Ends i o (double t) = o ≡ true
+Ends i o (word w) = Unit
+Ends i o (symbol y) = symbol-lengthens y ≡ ""
 
-pub ends-wider : (n : Bool) (t : Token) → Ends n t → Ends true t
-ends-wider n (name i) h = tt
-ends-wider n (Token.type v) h = tt
-ends-wider n (int k) h = refl
-ends-wider n (uint k) h = refl
-ends-wider n (float t) h = refl
-ends-wider n (double t) h = refl
-ends-wider n (word w) h = tt
-ends-wider n (symbol y) h = h
+pub ends-wider : (i o : Bool) (t : Token) → Ends i o t → Ends true true t
+ends-wider i o (name n) h = tt
+ends-wider i o (Token.type v) h = tt
+ends-wider i o (int k) h = refl
+ends-wider i o (uint k) h = refl
+ends-wider i o (float t) h = refl
+ends-wider i o (double t) h = refl
+ends-wider i o (word w) h = tt
+ends-wider i o (symbol y) h = h
+
+pub ends-least : (i o : Bool) (t : Token) → Ends false false t → Ends i o t
+ends-least i o (name n) h = tt
+ends-least i o (Token.type v) h = tt
+ends-least i o (int k) h = false-true h
+ends-least i o (uint k) h = false-true h
+ends-least i o (float t) h = false-true h
+ends-least i o (double t) h = false-true h
+ends-least i o (word w) h = tt
+ends-least i o (symbol y) h = h
 
 -- a byte that is of no name and no point stands clear behind all of them
-pub ends-clear : (b : ℕ) → nameByte b ≡ false → eqb b (code ".") ≡ false → (n : Bool) (t : Token) → Ends n t → lengthens t b ≡ false
+pub ends-clear : (wide : Bool) (b : ℕ) → nameByte b ≡ false → eqb b (code ".") ≡ false → (i o : Bool) (t : Token) → Ends i o t → lengthens wide t b ≡ false
 unfolding lengthens has
-ends-clear b h p n (name i) e = h
-ends-clear b h p n (Token.type v) e = h
-ends-clear b h p n (int k) e = rw (h, p)
-ends-clear b h p n (uint k) e = rw (h, p)
-ends-clear b h p n (float t) e = rw (h, p)
-ends-clear b h p n (double t) e = rw (h, p)
-ends-clear b h p n (word w) e = h
-ends-clear b h p n (symbol y) e = rw e
+ends-clear wide b h p i o (name n) e = h
+ends-clear wide b h p i o (Token.type v) e = h
+ends-clear wide b h p i o (int k) e = rw (h, p)
+ends-clear wide b h p i o (uint k) e = rw (h, p) (and-false wide)
+ends-clear wide b h p i o (float t) e = rw (h, p) (and-false wide)
+ends-clear wide b h p i o (double t) e = rw (h, p) (and-false wide)
+ends-clear wide b h p i o (word w) e = h
+ends-clear wide b h p i o (symbol y) e = rw e
 
--- a point stands clear behind what is no number
-pub point-clear : (t : Token) → Ends false t → lengthens t (code ".") ≡ false
+-- a point stands clear behind what is no whole number, and in a wide language behind what is no number
+pub point-clear : (wide o : Bool) → wide && o ≡ false → (t : Token) → Ends false o t → lengthens wide t (code ".") ≡ false
 unfolding lengthens has nameByte letter digit
-point-clear (name i) e = refl
-point-clear (Token.type v) e = refl
-point-clear (int k) e = false-true e
-point-clear (uint k) e = false-true e
-point-clear (float t) e = false-true e
-point-clear (double t) e = false-true e
-point-clear (word w) e = refl
-point-clear (symbol y) e = rw e
+point-clear wide o h (name n) e = refl
+point-clear wide o h (Token.type v) e = refl
+point-clear wide o h (int k) e = false-true e
+point-clear wide o h (uint k) e = subst (λ (o : Bool). wide && o ≡ false) e h
+point-clear wide o h (float t) e = subst (λ (o : Bool). wide && o ≡ false) e h
+point-clear wide o h (double t) e = subst (λ (o : Bool). wide && o ≡ false) e h
+point-clear wide o h (word w) e = refl
+point-clear wide o h (symbol y) e = rw e
 
 -- one of these bytes passes the test
 unfoldable pub some-pass : (ℕ → Bool) → List ℕ → Bool
@@ -109,59 +120,151 @@ apart f b (k ∷ ks) h n = go (eqb k b) refl (apart f b ks h (either-false (f k)
     go false e i = i
 
 -- a text whose first byte passes stands clear behind a symbol that no such byte makes longer
-pub clear-of : (f : ℕ → Bool) (y : Symbol) (bs : List ℕ) → some-pass f (bytes (symbol-lengthens y)) ≡ false → begins-with f bs ≡ true → Clear (symbol y) bs
+pub clear-of : (wide : Bool) (f : ℕ → Bool) (y : Symbol) (bs : List ℕ) → some-pass f (bytes (symbol-lengthens y)) ≡ false → begins-with f bs ≡ true → Clear wide (symbol y) bs
 unfolding lengthens
-clear-of f y [] n h = tt
-clear-of f y (b ∷ bs) n h = apart f b (bytes (symbol-lengthens y)) h n
+clear-of wide f y [] n h = tt
+clear-of wide f y (b ∷ bs) n h = apart f b (bytes (symbol-lengthens y)) h n
 
 -- so does any text behind a symbol that nothing makes longer
-pub never-longer : (y : Symbol) (bs : List ℕ) → symbol-lengthens y ≡ "" → Clear (symbol y) bs
+pub never-longer : (wide : Bool) (y : Symbol) (bs : List ℕ) → symbol-lengthens y ≡ "" → Clear wide (symbol y) bs
 unfolding lengthens has
-never-longer y [] e = tt
-never-longer y (b ∷ bs) e = rw e
-
--- what an operand begins with that needs no parentheses of its own: a byte of a name or number, or a parenthesis
-abbrev pub opening : ℕ → Bool
-opening b = nameByte b || eqb b (code "(")
-
-unary-apart : (u : UnaryOp) → some-pass opening (bytes (symbol-lengthens (unary-symbol u))) ≡ false
-unfolding some-pass symbol-lengthens unary-symbol nameByte letter digit
-unary-apart UnaryOp.Inc = refl
-unary-apart UnaryOp.Dec = refl
-unary-apart UnaryOp.Add = refl
-unary-apart UnaryOp.Minus = refl
-unary-apart UnaryOp.Not = refl
-unary-apart UnaryOp.Complement = refl
-
-pub unary-clear : (u : UnaryOp) (bs : List ℕ) → begins-with opening bs ≡ true → Clear (symbol (unary-symbol u)) bs
-unary-clear u bs h = clear-of opening (unary-symbol u) bs (unary-apart u) h
+never-longer wide y [] e = tt
+never-longer wide y (b ∷ bs) e = rw e
 
 -- a field's name stands clear behind the dot
-pub field-clear : (bs : List ℕ) → begins-with (λ b. nameByte b && not (digit b)) bs ≡ true → Clear (symbol dot) bs
+pub field-clear : (wide : Bool) (bs : List ℕ) → begins-with (λ b. nameByte b && not (digit b)) bs ≡ true → Clear wide (symbol dot) bs
 unfolding some-pass symbol-lengthens nameByte letter digit
-field-clear bs h = clear-of (λ b. nameByte b && not (digit b)) dot bs refl h
+field-clear wide bs h = clear-of wide (λ b. nameByte b && not (digit b)) dot bs refl h
 
--- a unary operator stands clear behind another but for those that 01's rules keep apart: doubled ones have parentheses, mixed ones are unsound
-pub sign-clear : (u v : UnaryOp) (e : Expr) (bs : List ℕ) → doubled u v ≡ false → Unmixed u (Expr.Unary v e) → Clear (symbol (unary-symbol u)) (bytes (symbolText (unary-symbol v)) ++ bs)
-unfolding lengthens has symbol-lengthens symbolText unary-symbol doubled oneOf same
-sign-clear UnaryOp.Inc v e bs d m = never-longer inc-op (bytes (symbolText (unary-symbol v)) ++ bs) refl
-sign-clear UnaryOp.Dec v e bs d m = never-longer dec-op (bytes (symbolText (unary-symbol v)) ++ bs) refl
-sign-clear UnaryOp.Complement v e bs d m = never-longer tilde (bytes (symbolText (unary-symbol v)) ++ bs) refl
-sign-clear UnaryOp.Not UnaryOp.Inc e bs d m = refl
-sign-clear UnaryOp.Not UnaryOp.Dec e bs d m = refl
-sign-clear UnaryOp.Not UnaryOp.Add e bs d m = refl
-sign-clear UnaryOp.Not UnaryOp.Minus e bs d m = refl
-sign-clear UnaryOp.Not UnaryOp.Not e bs d m = refl
-sign-clear UnaryOp.Not UnaryOp.Complement e bs d m = refl
-sign-clear UnaryOp.Add UnaryOp.Inc e bs d m = absurd (m Mixed.plus-over-inc)
-sign-clear UnaryOp.Add UnaryOp.Dec e bs d m = refl
-sign-clear UnaryOp.Add UnaryOp.Add e bs d m = d
-sign-clear UnaryOp.Add UnaryOp.Minus e bs d m = refl
-sign-clear UnaryOp.Add UnaryOp.Not e bs d m = refl
-sign-clear UnaryOp.Add UnaryOp.Complement e bs d m = refl
-sign-clear UnaryOp.Minus UnaryOp.Inc e bs d m = refl
-sign-clear UnaryOp.Minus UnaryOp.Dec e bs d m = absurd (m Mixed.minus-over-dec)
-sign-clear UnaryOp.Minus UnaryOp.Add e bs d m = refl
-sign-clear UnaryOp.Minus UnaryOp.Minus e bs d m = d
-sign-clear UnaryOp.Minus UnaryOp.Not e bs d m = refl
-sign-clear UnaryOp.Minus UnaryOp.Complement e bs d m = refl
+-- An operator before its operand: no byte that an expression can begin with makes it longer, but for the same sign behind a plus or minus.
+
+abbrev Calm : Symbol → Type 0
+Calm y = some-pass front (bytes (symbol-lengthens y)) ≡ false
+
+calm-clear : (wide : Bool) (y : Symbol) → Calm y → (b : ℕ) (bs : List ℕ) → front b ≡ true → Clear wide (symbol y) (b ∷ bs)
+calm-clear wide y n b bs h = clear-of wide front y (b ∷ bs) n h
+
+-- plus and minus are made longer by the same sign c and by `=`: a byte of another sign that an expression can begin with is neither
+sign-clear : (c b : ℕ) → front b ≡ true → (signByte b ≡ c → ⊥) → signByte c ≡ c → has b (c ∷ code "=" ∷ []) ≡ false
+unfolding has nameByte letter digit
+sign-clear c b f h k = rw (ne-eqb c b (λ e. h (ap signByte (sym e) ∙ k)), ne-eqb (code "=") b (λ e. false-true (ap front e ∙ f))) refl
+
+-- where the two do not read as one, the byte has another sign
+other-sign : (c s b : ℕ) → eqb c s ≡ false → signByte b ≡ s → signByte b ≡ c → ⊥
+other-sign c s b h e q = eqb-false c s h (sym q ∙ e)
+
+and-or : (a : Bool) → a && true || false ≡ false → a ≡ false
+and-or true h = h
+and-or false h = refl
+
+-- so a byte b of sign s stands clear behind an operator with which s does not read as one
+module _ (wide : Bool) (s b : ℕ) (bs : List ℕ) (f : front b ≡ true) (e : signByte b ≡ s) where
+  abbrev Behind : Symbol → Type 0
+  Behind y = reads-as-one (bytes (symbolText y) ++ (s ∷ [])) ≡ false → Clear wide (symbol y) (b ∷ bs)
+
+  plus-behind : Behind plus
+  unfolding oneOf same symbolText lengthens symbol-lengthens
+  plus-behind j = sign-clear (code "+") b f (other-sign (code "+") s b (and-or _ j) e) refl
+
+  dash-behind : Behind dash
+  unfolding oneOf same symbolText lengthens symbol-lengthens
+  dash-behind j = sign-clear (code "-") b f (other-sign (code "-") s b (and-or _ j) e) refl
+
+  calm-behind : (y : Symbol) → Calm y → Behind y
+  calm-behind y n j = calm-clear wide y n b bs f
+
+  pub unary-behind : (op : UnaryOp) → Behind (unary-symbol op)
+  unfolding unary-symbol some-pass symbol-lengthens has nameByte letter digit
+  unary-behind UnaryOp.Inc = calm-behind inc-op refl
+  unary-behind UnaryOp.Dec = calm-behind dec-op refl
+  unary-behind UnaryOp.Add = plus-behind
+  unary-behind UnaryOp.Minus = dash-behind
+  unary-behind UnaryOp.Not = calm-behind bang refl
+  unary-behind UnaryOp.Complement = calm-behind tilde refl
+
+  pub binary-behind : (op : BinaryOp) → Behind (binary-symbol op)
+  unfolding binary-op some-pass symbol-lengthens has nameByte letter digit
+  binary-behind BinaryOp.Or = calm-behind (binary-symbol BinaryOp.Or) refl
+  binary-behind BinaryOp.Xor = calm-behind (binary-symbol BinaryOp.Xor) refl
+  binary-behind BinaryOp.And = calm-behind (binary-symbol BinaryOp.And) refl
+  binary-behind BinaryOp.BitOr = calm-behind (binary-symbol BinaryOp.BitOr) refl
+  binary-behind BinaryOp.BitXor = calm-behind (binary-symbol BinaryOp.BitXor) refl
+  binary-behind BinaryOp.BitAnd = calm-behind (binary-symbol BinaryOp.BitAnd) refl
+  binary-behind BinaryOp.Equal = calm-behind (binary-symbol BinaryOp.Equal) refl
+  binary-behind BinaryOp.NonEqual = calm-behind (binary-symbol BinaryOp.NonEqual) refl
+  binary-behind BinaryOp.Lt = calm-behind (binary-symbol BinaryOp.Lt) refl
+  binary-behind BinaryOp.Gt = calm-behind (binary-symbol BinaryOp.Gt) refl
+  binary-behind BinaryOp.Lte = calm-behind (binary-symbol BinaryOp.Lte) refl
+  binary-behind BinaryOp.Gte = calm-behind (binary-symbol BinaryOp.Gte) refl
+  binary-behind BinaryOp.LShift = calm-behind (binary-symbol BinaryOp.LShift) refl
+  binary-behind BinaryOp.RShift = calm-behind (binary-symbol BinaryOp.RShift) refl
+  binary-behind BinaryOp.Add = plus-behind
+  binary-behind BinaryOp.Sub = dash-behind
+  binary-behind BinaryOp.Mult = calm-behind (binary-symbol BinaryOp.Mult) refl
+  binary-behind BinaryOp.Div = calm-behind (binary-symbol BinaryOp.Div) refl
+  binary-behind BinaryOp.Mod = calm-behind (binary-symbol BinaryOp.Mod) refl
+
+assignment-calm : (op : AssignmentOp) → Calm (assignment-symbol op)
+unfolding assignment-symbol some-pass symbol-lengthens has nameByte letter digit
+assignment-calm AssignmentOp.Equal = refl
+assignment-calm AssignmentOp.Mult = refl
+assignment-calm AssignmentOp.Div = refl
+assignment-calm AssignmentOp.Mod = refl
+assignment-calm AssignmentOp.Add = refl
+assignment-calm AssignmentOp.Sub = refl
+assignment-calm AssignmentOp.LShift = refl
+assignment-calm AssignmentOp.RShift = refl
+assignment-calm AssignmentOp.And = refl
+assignment-calm AssignmentOp.Xor = refl
+assignment-calm AssignmentOp.Or = refl
+
+pub assignment-clear : (wide : Bool) (op : AssignmentOp) (b : ℕ) (bs : List ℕ) → front b ≡ true → Clear wide (symbol (assignment-symbol op)) (b ∷ bs)
+assignment-clear wide op b bs h = calm-clear wide (assignment-symbol op) (assignment-calm op) b bs h
+
+-- An operator behind its operand begins with no byte of a name, and with no point.
+
+abbrev pub plain : ℕ → Bool
+plain b = not (nameByte b) && not (eqb b (code "."))
+
+pub ends-before : (wide : Bool) (bs : List ℕ) → begins-with plain bs ≡ true → (i o : Bool) (t : Token) → Ends i o t → Clear wide t bs
+ends-before wide [] h i o t e = tt
+ends-before wide (b ∷ bs) h i o t e = let g = both (not (nameByte b)) (not (eqb b (code "."))) h in ends-clear wide b (not-true (nameByte b) (g .0)) (not-true (eqb b (code ".")) (g .1)) i o t e
+
+abbrev pub Operator : Symbol → Type 0
+Operator y = begins-with plain (bytes (symbolText y)) ≡ true
+
+pub binary-operator : (op : BinaryOp) → Operator (binary-symbol op)
+unfolding binary-op symbolText nameByte letter digit
+binary-operator BinaryOp.Or = refl
+binary-operator BinaryOp.Xor = refl
+binary-operator BinaryOp.And = refl
+binary-operator BinaryOp.BitOr = refl
+binary-operator BinaryOp.BitXor = refl
+binary-operator BinaryOp.BitAnd = refl
+binary-operator BinaryOp.Equal = refl
+binary-operator BinaryOp.NonEqual = refl
+binary-operator BinaryOp.Lt = refl
+binary-operator BinaryOp.Gt = refl
+binary-operator BinaryOp.Lte = refl
+binary-operator BinaryOp.Gte = refl
+binary-operator BinaryOp.LShift = refl
+binary-operator BinaryOp.RShift = refl
+binary-operator BinaryOp.Add = refl
+binary-operator BinaryOp.Sub = refl
+binary-operator BinaryOp.Mult = refl
+binary-operator BinaryOp.Div = refl
+binary-operator BinaryOp.Mod = refl
+
+pub assignment-operator : (op : AssignmentOp) → Operator (assignment-symbol op)
+unfolding assignment-symbol symbolText nameByte letter digit
+assignment-operator AssignmentOp.Equal = refl
+assignment-operator AssignmentOp.Mult = refl
+assignment-operator AssignmentOp.Div = refl
+assignment-operator AssignmentOp.Mod = refl
+assignment-operator AssignmentOp.Add = refl
+assignment-operator AssignmentOp.Sub = refl
+assignment-operator AssignmentOp.LShift = refl
+assignment-operator AssignmentOp.RShift = refl
+assignment-operator AssignmentOp.And = refl
+assignment-operator AssignmentOp.Xor = refl
+assignment-operator AssignmentOp.Or = refl

@@ -1,29 +1,26 @@
--- The text of a sound expression is divided into its tokens, where the settings ask for spaces around operators, whatever they put behind commas. Assumes
--- nothing.
+-- The text of a formed expression is divided into its tokens, under any settings, if a space stands at each place where tokens would run together (`Kept`). Assumes nothing.
 use mathlib.Core.Path.{_≡_, refl, sym, ap, subst, _∙_}
-use mathlib.Core.Bool.{Bool, true, false, not, _&&_, _||_}
+use mathlib.Core.Bool.{Bool, true, false, not, _&&_, _||_, cond}
 use mathlib.Core.List.{List, [], _∷_, _++_, append-assoc, append-nil}
-use Prim.Native.Nat.{ℕ, _≤_, _<_, _^_}
+use Prim.Native.Nat.{ℕ, _<_, _^_}
 use native.Mathlib.Omega.{arith}
-use Prim.Native.Char.{code}
 use lib.Dec.{leb, ltb}
 use lib.ListN.{length}
-use borrow.Author.Tests.{leb-true, ltb-true, lt-leb, not-true}
-use Rattle.words.specs.Bytes.{bytes}
+use borrow.Author.Tests.{lt-leb}
 use Rattle.words.specs.Form.{nameForm, floatForm}
 use Rattle.words.specs.Letter.{letter, digit, nameByte}
 use Rattle.words.specs.Symbol.{Symbol, symbolText}
-use Rattle.words.specs.Symbol.Symbol.{dot, inc-op, dec-op, question, colon}
+use Rattle.words.specs.Symbol.Symbol.{dot, dash, inc-op, dec-op, question, colon}
 use Rattle.words.specs.Keyword.{typeKeywords}
 use Rattle.decimal.specs.Decimal.{negative, magnitude}
 use Rattle.settings.specs.declared.Settings.{Settings}
 use Rattle.settings.specs.declared.FormattingState.{FormattingState}
 use Rattle.text.specs.Token.{Token, spell}
-use Rattle.text.specs.Asked.{flag}
-use Rattle.text.specs.Asked.Flag.{spaces-around-binary-ops}
-use Rattle.text.specs.Command.{Command, write-binary-op, write-list-separator}
+use Rattle.text.specs.Asked.Flag.{spaces-where-needed, needed-operator-spaces}
+use Rattle.text.specs.Command.{Command, write-list-separator}
+use Rattle.text.specs.Command.Command.{token}
 use Rattle.text.specs.Pen.{written, text}
-use Rattle.text.specs.Tree.{Identifier, UnaryOp, BinaryOp, Expr, Exprs, FunIdentifier, TypeSpecifier, TypeSpecifierNonArray, ArraySpecifier, ArraySpecifierDimension}
+use Rattle.text.specs.Tree.{Identifier, UnaryOp, BinaryOp, AssignmentOp, Expr, Exprs, FunIdentifier, TypeSpecifier, TypeSpecifierNonArray, ArraySpecifier, ArraySpecifierDimension}
 use Rattle.text.specs.Tree.Expr.{no-expr, Variable, IntConst, UIntConst, BoolConst, FloatConst, DoubleConst, Unary, Binary, Ternary, Assignment, Bracket, FunCall, Dot, PostInc, PostDec, Comma}
 use Rattle.text.specs.Tree.Exprs.{no-exprs, exprs}
 use Rattle.text.specs.Tree.FunIdentifier.{OfType, OfExpr}
@@ -31,203 +28,179 @@ use Rattle.text.specs.Tree.TypeSpecifier.{no-type, type}
 use Rattle.text.specs.Tree.TypeSpecifierNonArray.{no-base, Keyword, TypeName, Struct}
 use Rattle.text.specs.Tree.ArraySpecifier.{no-dimensions, dimensions}
 use Rattle.text.specs.Tree.ArraySpecifierDimension.{no-dimension, Unsized, ExplicitlySized}
-use Rattle.text.specs.Operator.{postfix-precedence, unary-precedence, ternary-precedence, assignment-precedence, comma-precedence, binary-precedence, precedence, unary-symbol, binary-symbol, assignment-symbol, doubles}
-use Rattle.text.specs.Text.{bool-word, a-token, bare-if, show-expr, show-exprs, show-function-identifier, show-type-specifier, show-type-specifier-non-array, show-array-spec, show-dimension}
+use Rattle.text.specs.Operator.{postfix-precedence, ternary-precedence, assignment-precedence, comma-precedence, binary-precedence, precedence, unary-symbol, binary-symbol, assignment-symbol, bare-operand, bare-right}
+use Rattle.text.specs.Joins.{sign-if, sign, joins, joins-under, joins-right, is-int}
+use Rattle.text.specs.Text.{bool-word, a-token, a-symbol, bare-if, apart, show-int, show-expr, show-exprs, show-function-identifier, show-type-specifier, show-type-specifier-non-array, show-array-spec, show-dimension}
 use Rattle.text.specs.Visible.{tokensOf}
 use Rattle.formed.specs.Formed.{Formed-expr, Formed-exprs, Formed-callee, Formed-type, Formed-base, Formed-dimensions, Formed-dimension}
+use Rattle.formed.proofs.Signs.{Starts, starts-bare, expr-starts}
 use Rattle.grammar.proofs.Ladder.{ladder}
 use Rattle.grammar.proofs.Strengths.{same-strength}
-use Rattle.lexis.specs.Division.{Divides, begins-with}
+use Rattle.lexis.specs.Division.{Divides}
 use Rattle.lexis.specs.Division.Divides.{at-end}
-use Rattle.lexis.proofs.Tests.{both}
-use Rattle.lexis.proofs.Letters.{digit-name-byte}
-use Rattle.lexis.proofs.Laws.{symbol-lengthens, opens, Vocabulary}
-use Rattle.sound.specs.Sound.{Unmixed, NotNumeric, Sound, SoundCallee, SoundArguments, SoundType, SoundArray, SoundDimension, SoundBase}
-use Rattle.sound.proofs.Numeric.{numeric, not-numeric}
-use Rattle.sound.proofs.Clear.{Clear, Ends, ends-wider, ends-clear, point-clear, opening, unary-clear, field-clear, sign-clear, false-true}
-use Rattle.sound.proofs.Parts.{Part, Begins, then, wider, nothing, begins-then, before, begins-token, operand-begins, a-part, a-symbol-part, behind, indexed, called, operand, no-number, separated, between}
+use Rattle.lexis.proofs.Laws.{symbol-lengthens, opens, Spelling}
+use Rattle.sound.proofs.Clear.{Clear, clear-of, some-pass, Ends, ends-wider, point-clear, field-clear, unary-behind, binary-behind, assignment-clear, binary-operator, assignment-operator, never-longer}
+use Rattle.sound.proofs.Parts.{Part, then, wider, nothing, begins-token, a-part, a-symbol-part, behind, indexed, called, operand, separated, between, apart-clear, apart-part}
+use Rattle.sound.proofs.Kept.{is-other, Asked, KeptBase, Kept, KeptCallee, KeptArguments, KeptType, KeptArray, KeptDimension}
 
--- which tokens a vocabulary must call proper: those of formed expressions whose names the language does not list
-pub record Admits (listed : List ℕ → Bool) (proper : Token → Bool) : Type 0 where
-  pub names : (n : Identifier) → nameForm n ≡ true → listed n ≡ false → proper (Token.name n) ≡ true
+-- which tokens a spelling must call proper: those of formed expressions whose names pass a test
+pub record Admits (passes : List ℕ → Bool) (proper : Token → Bool) : Type 0 where
+  pub names : (n : Identifier) → nameForm n ≡ true → passes n ≡ true → proper (Token.name n) ≡ true
   pub types : (v : ℕ) → v < length typeKeywords → proper (Token.type v) ≡ true
-  pub ints : (n : ℕ) → n < 2 ^ 32 → proper (Token.int n) ≡ true
+  pub ints : (n : ℕ) → n < 2 ^ 32 → proper (Token.int (magnitude n)) ≡ true
   pub uints : (n : ℕ) → n < 2 ^ 32 → proper (Token.uint n) ≡ true
   pub floats : (t : List ℕ) → floatForm t ≡ true → proper (Token.float t) ≡ true
   pub doubles : (t : List ℕ) → floatForm t ≡ true → proper (Token.double t) ≡ true
   pub bools : (b : Bool) → proper (Token.word (bool-word b)) ≡ true
   pub symbols : (y : Symbol) → proper (Token.symbol y) ≡ true
 
--- can its text, without parentheses around it, end in a number?
-abbrev tail : Expr → Bool
-tail e = numeric e || not (leb (precedence e) 2)
+-- can its text, without parentheses around it, end in a whole number, or in another?
+abbrev loosely : Expr → Bool
+loosely e = not (leb (precedence e) 2)
 
-tail-false : (e : Expr) → NotNumeric e → leb (precedence e) 2 ≡ true → tail e ≡ false
-tail-false e n h = rw (not-numeric e n, h) refl
+abbrev ends-whole : Expr → Bool
+ends-whole e = is-int e || loosely e
+
+abbrev ends-other : Expr → Bool
+ends-other e = is-other e || loosely e
+
+or-false-is : (a b : Bool) → b ≡ false → a || b ≡ a
+or-false-is true b e = refl
+or-false-is false b e = e
+
+tight-ends : (e : Expr) → leb (precedence e) 2 ≡ true → (t : Token) → Ends (ends-whole e) (ends-other e) t → Ends (is-int e) (is-other e) t
+tight-ends e h t k = subst (λ (o : Bool). Ends (is-int e) o t) (or-false-is (is-other e) (loosely e) (ap not h)) (subst (λ (i : Bool). Ends i (ends-other e) t) (or-false-is (is-int e) (loosely e) (ap not h)) k)
 
 loose : (o : BinaryOp) → leb (binary-precedence o) 2 ≡ false
 loose o = lt-leb (binary-precedence o) 2 (omega (arith, same-strength o, ladder o .0))
 
--- a nameByte opens
-name-opens : (f : ℕ → Bool) → ((b : ℕ) → f b ≡ true → nameByte b ≡ true) → (s : Settings) (cs : List Command) → Begins s f cs → Begins s opening cs
-name-opens f h s cs b = record { first = λ x. go (text s cs x) (b .first x) }
-  where
-    go : (bs : List ℕ) → begins-with f bs ≡ true → begins-with opening bs ≡ true
-    go [] e = false-true e
-    go (b ∷ bs) e = rw (h b e) refl
+-- what starts with a byte b has it first, whatever stands behind
+module _ {c : ℕ} {cs : List Command} (h : Starts c cs) (s : Settings) (P : List ℕ → Type 0) (k : (bs : List ℕ) → P (h .byte ∷ bs)) where
+  started : (x : FormattingState) (rest : List ℕ) → P (text s cs x ++ rest)
+  started x rest = subst (λ (bs : List ℕ). P (bs ++ rest)) (sym (h .starts s x .1)) (k (h .starts s x .0 ++ rest))
 
-letter-opens : (b : ℕ) → nameByte b && not (digit b) ≡ true → nameByte b ≡ true
-letter-opens b h = both (nameByte b) (not (digit b)) h .0
+module _ (wide : Bool) (passes : List ℕ → Bool) {L : List ℕ → Token → Type 0} {W : List ℕ → Bool} {proper : Token → Bool} (law : Spelling wide spell proper L W) (ok : Admits passes proper) (s : Settings) where
+  -- the judgement, for these settings and this spelling
+  abbrev Divided : (whole other : Bool) → List Command → Type 0
+  Divided i o cs = Part wide L W s (Ends i o) cs
 
-module _ (listed : List ℕ → Bool) {L : List ℕ → Token → Type 0} {W : List ℕ → Bool} {proper : Token → Bool} (law : Vocabulary spell proper L W) (ok : Admits listed proper) (s : Settings) (on : flag s spaces-around-binary-ops ≡ true) where
-  -- the judgements, for these settings and this vocabulary
-  abbrev Divided : (number : Bool) → List Command → Type 0
-  Divided n cs = Part L W s (Ends n) cs
+  -- an operand, bare or not, begins with the sign of its expression
+  operand-starts : (e : Expr) → Formed-expr e → (bare : Bool) → Starts (sign-if bare (sign e)) (bare-if bare (show-expr e))
+  operand-starts e f bare = starts-bare bare (expr-starts e f)
 
-  abbrev Opens : List Command → Type 0
-  Opens cs = Begins s opening cs
+  unary-clear : (op : UnaryOp) (e : Expr) → Formed-expr e → joins-under op e ≡ false → (x : FormattingState) (rest : List ℕ) → Clear wide (Token.symbol (unary-symbol op)) (text s (bare-if (bare-operand op e) (show-expr e)) x ++ rest)
+  unfolding joins
+  unary-clear op e f j =
+      let h = operand-starts e f (bare-operand op e) in
+      started h s (λ bs. Clear wide (Token.symbol (unary-symbol op)) bs) (λ bs. unary-behind wide (sign-if (bare-operand op e) (sign e)) (h .byte) bs (h .fronts) (h .same) op j)
 
-  -- what a text begins with that binds as a postfix expression does, or more strongly
-  word-opens : (t : Token) → proper t ≡ true → ((b : ℕ) → opens t b ≡ true → nameByte b ≡ true) → Opens (a-token t)
-  word-opens t v h = name-opens (opens t) h s (a-token t) (begins-token law t v)
+  binary-clear : (op : BinaryOp) (r : Expr) → Formed-expr r → joins-right op r ≡ false → (x : FormattingState) (rest : List ℕ) → Clear wide (Token.symbol (binary-symbol op)) (text s (bare-if (bare-right op r) (show-expr r)) x ++ rest)
+  unfolding joins
+  binary-clear op r f j =
+      let h = operand-starts r f (bare-right op r) in
+      started h s (λ bs. Clear wide (Token.symbol (binary-symbol op)) bs) (λ bs. binary-behind wide (sign-if (bare-right op r) (sign r)) (h .byte) bs (h .fronts) (h .same) op j)
 
-  name-token : (n : Identifier) → nameForm n ≡ true → listed n ≡ false → Opens (a-token (Token.name n))
-  unfolding opens
-  name-token n f k = word-opens (Token.name n) (ok .names n f k) letter-opens
-
-  -- an IntConst that is not negative is its own size
-  whole : (n : ℕ) → n < 2 ^ 32 → negative n ≡ false → proper (Token.int (magnitude n)) ≡ true
-  unfolding magnitude
-  whole n b h = rw h (ok .ints n b)
-
-  callee-opens : (f : FunIdentifier) → Formed-callee f → SoundCallee listed f → Opens (show-function-identifier f)
-  unfolding Formed-callee Formed-type Formed-expr SoundCallee SoundType show-function-identifier show-type-specifier show-type-specifier-non-array show-expr opens
-  callee-opens (OfType no-type) f t = absurd t
-  callee-opens (OfType (type no-base ds)) f t = absurd t.0
-  callee-opens (OfType (type (Keyword v) ds)) f t = begins-then (word-opens (Token.type v) (ok .types v f.0) letter-opens) (show-array-spec ds)
-  callee-opens (OfType (type (TypeName n) ds)) f t = begins-then (name-token n f.0 t.0) (show-array-spec ds)
-  callee-opens (OfType (type (Struct n fs) ds)) f t = absurd t.0
-  callee-opens (OfExpr e) f t = subst (λ (a : Expr). Opens (show-expr a)) (sym (t .1)) (name-token (t .0) (subst (λ (a : Expr). Formed-expr a) (t .1) f) (t .2))
-
-  opens-expr : (e : Expr) → Formed-expr e → Sound listed e → precedence e ≤ 2 → Opens (show-expr e)
-  unfolding Formed-expr Sound show-expr precedence opens
-  opens-expr no-expr f t h = absurd t
-  opens-expr (Variable n) f t h = name-token n f t
-  opens-expr (IntConst n) f t h = rw t (word-opens (Token.int (magnitude n)) (whole n f t) digit-name-byte)
-  opens-expr (UIntConst n) f t h = word-opens (Token.uint n) (ok .uints n f) digit-name-byte
-  opens-expr (BoolConst b) f t h = word-opens (Token.word (bool-word b)) (ok .bools b) letter-opens
-  opens-expr (FloatConst x) f t h = word-opens (Token.float x) (ok .floats x f) digit-name-byte
-  opens-expr (DoubleConst x) f t h = word-opens (Token.double x) (ok .doubles x f) digit-name-byte
-  opens-expr (Unary op e) f t h = absurd (omega arith)
-  opens-expr (Binary op l r) f t h = absurd (omega (arith, same-strength op, ladder op .0))
-  opens-expr (Ternary c a b) f t h = absurd (omega arith)
-  opens-expr (Assignment op v e) f t h = absurd (omega arith)
-  opens-expr (Bracket e a) f t h = begins-then (operand-begins (leb (precedence e) 2) (λ q. opens-expr e f.0 t.0 (leb-true (precedence e) 2 q))) _
-  opens-expr (FunCall c es) f t h = begins-then (callee-opens c f.0 t.0) _
-  opens-expr (Dot i e) f t h = begins-then (begins-then (operand-begins (leb (precedence e) 2) (λ q. opens-expr e f.1 t.2 (leb-true (precedence e) 2 q))) _) _
-  opens-expr (PostInc e) f t h = begins-then (operand-begins (ltb (precedence e) 2) (λ q. opens-expr e f t (omega (arith, ltb-true (precedence e) 2 q)))) _
-  opens-expr (PostDec e) f t h = begins-then (operand-begins (ltb (precedence e) 2) (λ q. opens-expr e f t (omega (arith, ltb-true (precedence e) 2 q)))) _
-  opens-expr (Comma a b) f t h = absurd (omega arith)
-
-  opening-clear : (op : UnaryOp) (e : Expr) → Formed-expr e → Sound listed e → precedence e ≤ 2 → (x : FormattingState) (rest : List ℕ) → Clear (Token.symbol (unary-symbol op)) (text s (show-expr e) x ++ rest)
-  opening-clear op e f t h x rest = unary-clear op (text s (show-expr e) x ++ rest) (before (opens-expr e f t h) x rest)
-
-  -- what a unary operator's operand, without parentheses, begins with does not make the operator longer
-  bare-clear : (op : UnaryOp) (e : Expr) → Formed-expr e → Sound listed e → Unmixed op e → doubles op e ≡ false → precedence e ≤ 3 → (x : FormattingState) (rest : List ℕ) → Clear (Token.symbol (unary-symbol op)) (text s (show-expr e) x ++ rest)
-  unfolding precedence doubles show-expr text written spell Sound
-  bare-clear op no-expr f t m d h x rest = absurd t
-  bare-clear op (Variable n) f t m d h x rest = opening-clear op (Variable n) f t (omega arith) x rest
-  bare-clear op (IntConst n) f t m d h x rest = opening-clear op (IntConst n) f t (omega arith) x rest
-  bare-clear op (UIntConst n) f t m d h x rest = opening-clear op (UIntConst n) f t (omega arith) x rest
-  bare-clear op (BoolConst b) f t m d h x rest = opening-clear op (BoolConst b) f t (omega arith) x rest
-  bare-clear op (FloatConst n) f t m d h x rest = opening-clear op (FloatConst n) f t (omega arith) x rest
-  bare-clear op (DoubleConst n) f t m d h x rest = opening-clear op (DoubleConst n) f t (omega arith) x rest
-  bare-clear op (Unary o e) f t m d h x rest = rw (append-assoc (bytes (symbolText (unary-symbol o)))) (sign-clear op o e _ d m)
-  bare-clear op (Binary o l r) f t m d h x rest = absurd (omega (arith, same-strength o, ladder o .0))
-  bare-clear op (Ternary c a b) f t m d h x rest = absurd (omega arith)
-  bare-clear op (Assignment o v e) f t m d h x rest = absurd (omega arith)
-  bare-clear op (Bracket e a) f t m d h x rest = opening-clear op (Bracket e a) f t (omega arith) x rest
-  bare-clear op (FunCall c es) f t m d h x rest = opening-clear op (FunCall c es) f t (omega arith) x rest
-  bare-clear op (Dot i e) f t m d h x rest = opening-clear op (Dot i e) f t (omega arith) x rest
-  bare-clear op (PostInc e) f t m d h x rest = opening-clear op (PostInc e) f t (omega arith) x rest
-  bare-clear op (PostDec e) f t m d h x rest = opening-clear op (PostDec e) f t (omega arith) x rest
-  bare-clear op (Comma a b) f t m d h x rest = absurd (omega arith)
-
-  operand-clear : (op : UnaryOp) (e : Expr) → Formed-expr e → Sound listed e → Unmixed op e → (bare : Bool) → leb (precedence e) 3 && not (doubles op e) ≡ bare → (x : FormattingState) (rest : List ℕ)
-      → Clear (Token.symbol (unary-symbol op)) (text s (bare-if bare (show-expr e)) x ++ rest)
-  operand-clear op e f t m true h x rest =
-      let g = both (leb (precedence e) 3) (not (doubles op e)) h
-      in bare-clear op e f t m (not-true (doubles op e) (g .1)) (leb-true (precedence e) 3 (g .0)) x rest
-  operand-clear op e f t m false h x rest = unary-clear op (text s (bare-if false (show-expr e)) x ++ rest) (before (operand-begins {s = s} {cs = show-expr e} false (λ q. false-true q)) x rest)
+  value-clear : (op : AssignmentOp) (e : Expr) → Formed-expr e → (bare : Bool) → (x : FormattingState) (rest : List ℕ) → Clear wide (Token.symbol (assignment-symbol op)) (text s (bare-if bare (show-expr e)) x ++ rest)
+  value-clear op e f bare =
+      let h = operand-starts e f bare in
+      started h s (λ bs. Clear wide (Token.symbol (assignment-symbol op)) bs) (λ bs. assignment-clear wide op (h .byte) bs (h .fronts))
 
   -- a field's name behind its dot
-  selected : (i : Identifier) → proper (Token.name i) ≡ true → (x : FormattingState) (rest : List ℕ) → Clear (Token.symbol dot) (text s (a-token (Token.name i)) x ++ rest)
+  selected : (i : Identifier) → proper (Token.name i) ≡ true → (x : FormattingState) (rest : List ℕ) → Clear wide (Token.symbol dot) (text s (a-token (Token.name i)) x ++ rest)
   unfolding opens
-  selected i v x rest = field-clear (text s (a-token (Token.name i)) x ++ rest) (before (begins-token law (Token.name i) v) x rest)
+  selected i v x rest = field-clear wide (text s (a-token (Token.name i)) x ++ rest) (begins-token law s (Token.name i) v x rest)
 
-  base-part : (b : TypeSpecifierNonArray) → Formed-base b → SoundBase listed b → Divided false (show-type-specifier-non-array b)
+  -- the dot behind what it selects from
+  dotted : (e : Expr) → Asked s (is-int e) spaces-where-needed → wide && is-other e ≡ false → (t : Token) → Ends (is-int e) (is-other e) t → (x : FormattingState) (rest : List ℕ) → Clear wide t (text s (apart (is-int e) spaces-where-needed (a-symbol dot)) x ++ rest)
+  unfolding text written spell symbolText
+  dotted e k w t h = apart-clear wide s (is-int e) spaces-where-needed t (a-symbol dot) k (λ q x rest. point-clear wide (is-other e) w t (subst (λ (i : Bool). Ends i (is-other e) t) q h))
+
+  -- a whole number, with its sign
+  int-part : (n : ℕ) → n < 2 ^ 32 → Divided true false (show-int n)
+  unfolding opens some-pass symbol-lengthens digit
+  int-part n b = go (negative n)
+    where
+      number : Divided true false (a-token (Token.int (magnitude n)))
+      number = wider (λ u q. rw q refl) (a-part law (Token.int (magnitude n)) (ok .ints n b))
+
+      go : (m : Bool) → Divided true false (cond m (token (Token.symbol dash) ∷ a-token (Token.int (magnitude n))) (a-token (Token.int (magnitude n))))
+      go true = then (a-symbol-part law (ok .symbols) dash) (λ u q x rest. rw q (clear-of wide digit dash (text s (a-token (Token.int (magnitude n))) x ++ rest) refl (begins-token law s (Token.int (magnitude n)) (ok .ints n b) x rest))) number
+      go false = number
+
+  base-part : (b : TypeSpecifierNonArray) → Formed-base b → KeptBase wide passes s b → Divided false false (show-type-specifier-non-array b)
   unfolding Formed-base show-type-specifier-non-array
   base-part no-base f h = absurd h
   base-part (Keyword v) f h = wider (λ u q. rw q tt) (a-part law (Token.type v) (ok .types v f))
   base-part (TypeName n) f h = wider (λ u q. rw q tt) (a-part law (Token.name n) (ok .names n f h))
   base-part (Struct n fs) f h = absurd h
 
-  bare : {n : Bool} {cs : List Command} (b : Bool) → Divided n cs → Divided true (bare-if b cs)
-  bare b p = operand law (ok .symbols) b p
-
-  spaced : {n m : Bool} {cs ds : List Command} (y : Symbol) → Divided n cs → Divided m ds → Divided m (cs ++ write-binary-op y ++ ds)
-  spaced y p q = between law (ok .symbols) on y p q
+  bare : {i o : Bool} {cs : List Command} (b : Bool) → Divided i o cs → Divided true true (bare-if b cs)
+  bare {i = i} {o = o} b p = operand law (ok .symbols) b (λ q t. ends-wider i o t) p
 
   mutual
-    unfolding Formed-expr Sound show-expr precedence numeric text written spell symbolText symbol-lengthens nameByte letter digit
+    unfolding Formed-expr Kept show-expr precedence is-int is-other text written spell symbolText symbol-lengthens nameByte letter digit
 
-    part : (e : Expr) → Formed-expr e → Sound listed e → Divided (tail e) (show-expr e)
+    part : (e : Expr) → Formed-expr e → Kept wide passes s e → Divided (ends-whole e) (ends-other e) (show-expr e)
     part no-expr f t = absurd t
     part (Variable n) f t = wider (λ u q. rw q tt) (a-part law (Token.name n) (ok .names n f t))
-    part (IntConst n) f t = rw t (wider (λ u q. rw q refl) (a-part law (Token.int (magnitude n)) (whole n f t)))
+    part (IntConst n) f t = int-part n f
     part (UIntConst n) f t = wider (λ u q. rw q refl) (a-part law (Token.uint n) (ok .uints n f))
     part (BoolConst b) f t = wider (λ u q. rw q tt) (a-part law (Token.word (bool-word b)) (ok .bools b))
     part (FloatConst x) f t = wider (λ u q. rw q refl) (a-part law (Token.float x) (ok .floats x f))
     part (DoubleConst x) f t = wider (λ u q. rw q refl) (a-part law (Token.double x) (ok .doubles x f))
-    part (Unary op e) f t = then (a-symbol-part law (ok .symbols) (unary-symbol op)) (λ u q x rest. rw q (operand-clear op e f t.1 t.0 (leb (precedence e) unary-precedence && not (doubles op e)) refl x rest)) (bare (leb (precedence e) unary-precedence && not (doubles op e)) (part e f t.1))
-    part (Binary op l r) f t = rw (loose op) (spaced (binary-symbol op) (bare (leb (precedence l) (binary-precedence op)) (part l f.0 t.0)) (bare (ltb (precedence r) (binary-precedence op)) (part r f.1 t.1)))
-    part (Ternary c a b) f t = spaced colon (spaced question (bare (ltb (precedence c) ternary-precedence) (part c f.0 t.0)) (part a f.1 t.1)) (bare (leb (precedence b) ternary-precedence) (part b f.2 t.2))
-    part (Assignment op v e) f t = spaced (assignment-symbol op) (bare (ltb (precedence v) assignment-precedence) (part v f.0 t.1)) (bare (leb (precedence e) assignment-precedence) (part e f.1 t.2))
+    part (Unary op e) f t =
+        then (a-symbol-part law (ok .symbols) (unary-symbol op))
+        (λ u q x rest. rw q (apart-clear wide s (joins-under op e) spaces-where-needed (Token.symbol (unary-symbol op)) (bare-if (bare-operand op e) (show-expr e)) t.0 (unary-clear op e f) x rest))
+        (apart-part (joins-under op e) spaces-where-needed (bare (bare-operand op e) (part e f t.1)))
+    part (Binary op l r) f t =
+        rw (loose op)
+        (between law (ok .symbols) (binary-symbol op) (binary-operator op)
+        (λ off. apart-clear wide s (joins-right op r) needed-operator-spaces (Token.symbol (binary-symbol op)) (bare-if (bare-right op r) (show-expr r)) (t.0 off) (binary-clear op r f.1))
+        (bare (leb (precedence l) (binary-precedence op)) (part l f.0 t.1))
+        (apart-part (joins-right op r) needed-operator-spaces (bare (bare-right op r) (part r f.1 t.2))))
+    part (Ternary c a b) f t =
+        between law (ok .symbols) colon refl (λ off x rest. never-longer wide colon (text s (bare-if (leb (precedence b) ternary-precedence) (show-expr b)) x ++ rest) refl)
+        (between law (ok .symbols) question refl (λ off x rest. never-longer wide question (text s (show-expr a) x ++ rest) refl) (bare (ltb (precedence c) ternary-precedence) (part c f.0 t.0)) (part a f.1 t.1))
+        (bare (leb (precedence b) ternary-precedence) (part b f.2 t.2))
+    part (Assignment op v e) f t =
+        between law (ok .symbols) (assignment-symbol op) (assignment-operator op) (λ off. value-clear op e f.1 (leb (precedence e) assignment-precedence))
+        (bare (ltb (precedence v) assignment-precedence) (part v f.0 t.0)) (bare (leb (precedence e) assignment-precedence) (part e f.1 t.1))
     part (Bracket e a) f t = indexed law (ok .symbols) (bare (leb (precedence e) postfix-precedence) (part e f.0 t.0)) (part a f.1 t.1)
     part (FunCall c es) f t = called law (ok .symbols) (callee-part c f.0 t.0) (arguments es f.1 t.1)
-    part (Dot i e) f t = then (then (no-number law (ok .symbols) (leb (precedence e) 2) (tail-false e t.0) (part e f.1 t.2)) (λ u q x rest. point-clear u q) (a-symbol-part law (ok .symbols) dot))
-        (λ u q x rest. rw q (selected i (ok .names i f.0 t.1) x rest)) (wider (λ u q. rw q tt) (a-part law (Token.name i) (ok .names i f.0 t.1)))
-    part (PostInc e) f t = behind law (ok .symbols) inc-op (λ u q rest. ends-clear (code "+") refl refl true u q) refl (bare (ltb (precedence e) postfix-precedence) (part e f t))
-    part (PostDec e) f t = behind law (ok .symbols) dec-op (λ u q rest. ends-clear (code "-") refl refl true u q) refl (bare (ltb (precedence e) postfix-precedence) (part e f t))
+    part (Dot i e) f t =
+        then (then (operand law (ok .symbols) (leb (precedence e) 2) (tight-ends e) (part e f.1 t.3)) (λ u q x rest. dotted e t.0 t.1 u q x rest) (apart-part (is-int e) spaces-where-needed (a-symbol-part law (ok .symbols) dot)))
+        (λ u q x rest. rw q (selected i (ok .names i f.0 t.2) x rest)) (wider (λ u q. rw q tt) (a-part law (Token.name i) (ok .names i f.0 t.2)))
+    part (PostInc e) f t = behind law (ok .symbols) inc-op refl refl (bare (ltb (precedence e) postfix-precedence) (part e f t))
+    part (PostDec e) f t = behind law (ok .symbols) dec-op refl refl (bare (ltb (precedence e) postfix-precedence) (part e f t))
     part (Comma a b) f t = separated law (ok .symbols) (bare (leb (precedence a) comma-precedence) (part a f.0 t.0)) (bare (ltb (precedence b) comma-precedence) (part b f.1 t.1))
 
-    arguments : (es : Exprs) → Formed-exprs es → SoundArguments listed es → Divided true (show-exprs es true)
+    arguments : (es : Exprs) → Formed-exprs es → KeptArguments wide passes s es → Divided true true (show-exprs es true)
     arguments no-exprs f t = nothing
-    arguments (exprs e es) f t = more-arguments es f.1 t.2 (part e f.0 t.1)
+    arguments (exprs e es) f t = more-arguments es f.1 t.1 (part e f.0 t.0)
 
     -- behind the arguments before them
-    more-arguments : (es : Exprs) → Formed-exprs es → SoundArguments listed es → {n : Bool} {cs : List Command} → Divided n cs → Divided true (cs ++ show-exprs es false)
-    more-arguments no-exprs f t {n = n} {cs = cs} p = rw (append-nil cs) (wider (ends-wider n) p)
-    more-arguments (exprs e es) f t {cs = cs} p = subst (λ (ds : List Command). Divided true ds) (ap (λ (ds : List Command). ds ++ show-exprs es false) (append-assoc cs write-list-separator (show-expr e)) ∙ append-assoc cs (write-list-separator ++ show-expr e) (show-exprs es false)) (more-arguments es f.1 t.2 (separated law (ok .symbols) p (part e f.0 t.1)))
+    more-arguments : (es : Exprs) → Formed-exprs es → KeptArguments wide passes s es → {i o : Bool} {cs : List Command} → Divided i o cs → Divided true true (cs ++ show-exprs es false)
+    more-arguments no-exprs f t {i = i} {o = o} {cs = cs} p = rw (append-nil cs) (wider (ends-wider i o) p)
+    more-arguments (exprs e es) f t {cs = cs} p = subst (λ (ds : List Command). Divided true true ds) (ap (λ (ds : List Command). ds ++ show-exprs es false) (append-assoc cs write-list-separator (show-expr e)) ∙ append-assoc cs (write-list-separator ++ show-expr e) (show-exprs es false)) (more-arguments es f.1 t.1 (separated law (ok .symbols) p (part e f.0 t.0)))
 
-    callee-part : (c : FunIdentifier) → Formed-callee c → SoundCallee listed c → Divided false (show-function-identifier c)
-    callee-part (OfType t) f h = type-part t f h
-    callee-part (OfExpr e) f h = subst (λ (a : Expr). Divided false (show-expr a)) (sym (h .1)) (wider (λ u q. rw q tt) (a-part law (Token.name (h .0)) (ok .names (h .0) (subst (λ (a : Expr). Formed-expr a) (h .1) f) (h .2))))
+    callee-part : (c : FunIdentifier) → Formed-callee c → KeptCallee wide passes s c → Divided true true (show-function-identifier c)
+    callee-part (OfType t) f h = wider (ends-wider false false) (type-part t f h)
+    callee-part (OfExpr e) f h = wider (ends-wider (ends-whole e) (ends-other e)) (part e f h)
 
-    type-part : (t : TypeSpecifier) → Formed-type t → SoundType listed t → Divided false (show-type-specifier t)
+    type-part : (t : TypeSpecifier) → Formed-type t → KeptType wide passes s t → Divided false false (show-type-specifier t)
     type-part no-type f h = absurd h
     type-part (type b ds) f h = array-part ds f.1 h.1 (base-part b f.0 h.0)
 
     -- the dimensions, behind what is before them
-    array-part : (ds : ArraySpecifier) → Formed-dimensions ds → SoundArray listed ds → {cs : List Command} → Divided false cs → Divided false (cs ++ show-array-spec ds)
+    array-part : (ds : ArraySpecifier) → Formed-dimensions ds → KeptArray wide passes s ds → {cs : List Command} → Divided false false cs → Divided false false (cs ++ show-array-spec ds)
     array-part no-dimensions f h {cs = cs} p = rw (append-nil cs) p
     array-part (dimensions d ds) f h {cs = cs} p = rw (sym (append-assoc cs (show-dimension d) (show-array-spec ds))) (array-part ds f.1 h.1 (dimension-part d f.0 h.0 p))
 
-    dimension-part : (d : ArraySpecifierDimension) → Formed-dimension d → SoundDimension listed d → {cs : List Command} → Divided false cs → Divided false (cs ++ show-dimension d)
+    dimension-part : (d : ArraySpecifierDimension) → Formed-dimension d → KeptDimension wide passes s d → {cs : List Command} → Divided false false cs → Divided false false (cs ++ show-dimension d)
     dimension-part no-dimension f h p = absurd h
-    dimension-part Unsized f h p = indexed law (ok .symbols) p (nothing {E = Ends false})
-    dimension-part (ExplicitlySized e) f h p = indexed law (ok .symbols) p (part e f h.1)
+    dimension-part Unsized f h p = indexed law (ok .symbols) p (nothing {E = Ends false false})
+    dimension-part (ExplicitlySized e) f h p = indexed law (ok .symbols) p (part e f h)
 
   -- the whole text
-  pub divided : (e : Expr) → Formed-expr e → Sound listed e → (x : FormattingState) → Divides L W (text s (show-expr e) x) (tokensOf (show-expr e))
+  pub divided : (e : Expr) → Formed-expr e → Kept wide passes s e → (x : FormattingState) → Divides L W (text s (show-expr e) x) (tokensOf (show-expr e))
   divided e f t x = simp append-nil at (part e f t .join x [] [] (λ u q. tt) at-end)

@@ -3,8 +3,10 @@ pub mod Joined
 pub mod Shows
 pub mod Derived
 pub mod Clear
-pub mod Numeric
 pub mod Parts
+pub mod Kept
 pub mod Divided
+pub mod SoundKept
 pub mod Glsl
+pub mod Relaxed
 pub mod Sample

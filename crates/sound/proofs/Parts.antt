@@ -17,44 +17,40 @@ use Rattle.text.specs.Asked.Flag.{spaces-around-binary-ops, space-after-list-se
 use Rattle.text.specs.Command.{Command, write-binary-op, write-list-separator}
 use Rattle.text.specs.Command.Command.{space-if}
 use Rattle.text.specs.Pen.{written, after, text, afterAll}
-use Rattle.text.specs.Text.{a-token, a-symbol, parenthesized, in-square-brackets, bare-if}
+use Rattle.text.specs.Text.{a-token, a-symbol, parenthesized, in-square-brackets, bare-if, apart}
 use Rattle.text.specs.Visible.{tokensOf}
 use Rattle.text.proofs.Append.{text-append}
 use Rattle.lexis.specs.Division.{white-space, Longest, Divides, begins-with}
 use Rattle.lexis.specs.Division.Divides.{skip, take}
-use Rattle.lexis.proofs.Laws.{symbol-lengthens, opens, Vocabulary}
+use Rattle.lexis.proofs.Laws.{symbol-lengthens, opens, Spelling}
 use Rattle.sound.proofs.Tokens.{tokens-append}
-use Rattle.sound.proofs.Clear.{false-true, true-false, Clear, space-clear, Ends, ends-wider, ends-clear, opening, never-longer}
+use Rattle.sound.proofs.Clear.{false-true, true-false, Clear, space-clear, Ends, ends-least, ends-clear, ends-before, never-longer, plain, Operator}
 
 -- under the settings s, what cs writes has the tokens of cs; E says what its last token can be
-pub record Part (L : List ℕ → Token → Type 0) (W : List ℕ → Bool) (s : Settings) (E : Token → Type 0) (cs : List Command) : Type 0 where
-  pub join : (x : FormattingState) (rest : List ℕ) (us : List Token) → ((t : Token) → E t → Clear t rest) → Divides L W rest us → Divides L W (text s cs x ++ rest) (tokensOf cs ++ us)
+pub record Part (wide : Bool) (L : List ℕ → Token → Type 0) (W : List ℕ → Bool) (s : Settings) (E : Token → Type 0) (cs : List Command) : Type 0 where
+  pub join : (x : FormattingState) (rest : List ℕ) (us : List Token) → ((t : Token) → E t → Clear wide t rest) → Divides L W rest us → Divides L W (text s cs x ++ rest) (tokensOf cs ++ us)
 
--- what cs writes begins with a byte that passes
-pub record Begins (s : Settings) (f : ℕ → Bool) (cs : List Command) : Type 0 where
-  pub first : (x : FormattingState) → begins-with f (text s cs x) ≡ true
-
-module _ {L : List ℕ → Token → Type 0} {W : List ℕ → Bool} {s : Settings} where
+module _ {wide : Bool} {L : List ℕ → Token → Type 0} {W : List ℕ → Bool} {s : Settings} where
   -- one part behind another that it does not lengthen
-  pub then : {E F : Token → Type 0} {cs ds : List Command} → Part L W s E cs → ((t : Token) → E t → (x : FormattingState) (rest : List ℕ) → Clear t (text s ds x ++ rest)) → Part L W s F ds → Part L W s F (cs ++ ds)
+  pub then : {E F : Token → Type 0} {cs ds : List Command} → Part wide L W s E cs → ((t : Token) → E t → (x : FormattingState) (rest : List ℕ) → Clear wide t (text s ds x ++ rest)) → Part wide L W s F ds → Part wide L W s F (cs ++ ds)
   then {cs = cs} {ds = ds} p h q = record {
     join = λ x rest us k d. rw (text-append s cs ds x, tokens-append cs ds, append-assoc (text s cs x) (text s ds (afterAll s cs x)) rest, append-assoc (tokensOf cs) (tokensOf ds) us)
         (p .join x (text s ds (afterAll s cs x) ++ rest) (tokensOf ds ++ us) (λ t e. h t e (afterAll s cs x) rest) (q .join (afterAll s cs x) rest us k d));
   }
 
-  pub wider : {E F : Token → Type 0} {cs : List Command} → ((t : Token) → E t → F t) → Part L W s E cs → Part L W s F cs
+  pub wider : {E F : Token → Type 0} {cs : List Command} → ((t : Token) → E t → F t) → Part wide L W s E cs → Part wide L W s F cs
   wider h p = record { join = λ x rest us k d. p .join x rest us (λ t e. k t (h t e)) d }
 
-  pub nothing : {E : Token → Type 0} → Part L W s E []
+  pub nothing : {E : Token → Type 0} → Part wide L W s E []
   unfolding text tokensOf
   nothing = record { join = λ x rest us k d. d }
 
   -- a part behind one that ends in a space, or has nothing to make longer
-  pub after-gap : {F : Token → Type 0} {cs ds : List Command} → Part L W s (λ t. ⊥) cs → Part L W s F ds → Part L W s F (cs ++ ds)
+  after-gap : {F : Token → Type 0} {cs ds : List Command} → Part wide L W s (λ t. ⊥) cs → Part wide L W s F ds → Part wide L W s F (cs ++ ds)
   after-gap p q = then p (λ t e x rest. absurd e) q
 
   -- a space that a flag asks for, before a part
-  pub spaced : {E : Token → Type 0} {cs : List Command} (f : Flag) → Part L W s E cs → Part L W s E (space-if f ∷ cs)
+  spaced : {E : Token → Type 0} {cs : List Command} (f : Flag) → Part wide L W s E cs → Part wide L W s E (space-if f ∷ cs)
   unfolding text tokensOf written after white-space
   spaced {cs = cs} f p = record { join = λ x rest us k d. go (flag s f) x rest us (p .join x rest us k d) }
     where
@@ -62,97 +58,104 @@ module _ {L : List ℕ → Token → Type 0} {W : List ℕ → Bool} {s : Settin
       go true x rest us d = skip refl d
       go false x rest us d = d
 
--- where the settings ask for spaces around operators, one stands clear behind every token
-space-behind : (s : Settings) → flag s spaces-around-binary-ops ≡ true → (t : Token) (cs : List Command) (x : FormattingState) (rest : List ℕ) → Clear t (text s (space-if spaces-around-binary-ops ∷ cs) x ++ rest)
-unfolding text written
-space-behind s on t cs x rest = rw on (space-clear t)
+-- a space that a flag asks for stands clear behind every token; where it is not asked for, what follows must
+gap-or : (wide : Bool) (s : Settings) (f : Flag) (t : Token) (cs : List Command) → (flag s f ≡ false → (x : FormattingState) (rest : List ℕ) → Clear wide t (text s cs x ++ rest))
+    → (x : FormattingState) (rest : List ℕ) → Clear wide t (text s (space-if f ∷ cs) x ++ rest)
+unfolding text written after
+gap-or wide s f t cs h x rest = go (flag s f) refl
+  where
+    go : (b : Bool) → flag s f ≡ b → Clear wide t ((cond b (bytes " ") [] ++ text s cs x) ++ rest)
+    go true e = space-clear wide t
+    go false e = h e x rest
 
--- where cs begins so does cs with more behind it
+-- where a space is needed it is asked for, and where none is, what follows is clear
+pub apart-clear : (wide : Bool) (s : Settings) (j : Bool) (f : Flag) (t : Token) (cs : List Command) → (j ≡ true → flag s f ≡ true) → (j ≡ false → (x : FormattingState) (rest : List ℕ) → Clear wide t (text s cs x ++ rest))
+    → (x : FormattingState) (rest : List ℕ) → Clear wide t (text s (apart j f cs) x ++ rest)
+apart-clear wide s true f t cs k h = gap-or wide s f t cs (λ e. true-false (sym (k refl) ∙ e))
+apart-clear wide s false f t cs k h = h refl
+
+pub apart-part : {wide : Bool} {L : List ℕ → Token → Type 0} {W : List ℕ → Bool} {s : Settings} {E : Token → Type 0} {cs : List Command} (j : Bool) (f : Flag) → Part wide L W s E cs → Part wide L W s E (apart j f cs)
+apart-part true f p = spaced f p
+apart-part false f p = p
+
+-- what begins so does with more behind it
 begins-more : (f : ℕ → Bool) (bs cs : List ℕ) → begins-with f bs ≡ true → begins-with f (bs ++ cs) ≡ true
 begins-more f [] cs h = false-true h
 begins-more f (b ∷ bs) cs h = h
 
-module _ {s : Settings} {f : ℕ → Bool} where
-  pub begins-then : {cs : List Command} → Begins s f cs → (ds : List Command) → Begins s f (cs ++ ds)
-  begins-then {cs = cs} b ds = record { first = λ x. rw (text-append s cs ds x) (begins-more f (text s cs x) (text s ds (afterAll s cs x)) (b .first x)) }
+-- an operator is the first that its commands write
+operator-first : (y : Symbol) → Operator y → (s : Settings) (cs : List Command) (x : FormattingState) (rest : List ℕ) → begins-with plain (text s (a-symbol y ++ cs) x ++ rest) ≡ true
+unfolding text written after spell
+operator-first y h s cs x rest = begins-more plain (bytes (symbolText y) ++ text s cs x) rest (begins-more plain (bytes (symbolText y)) (text s cs x) h)
 
-  pub before : {cs : List Command} → Begins s f cs → (x : FormattingState) (rest : List ℕ) → begins-with f (text s cs x ++ rest) ≡ true
-  before {cs = cs} b x rest = begins-more f (text s cs x) rest (b .first x)
-
--- with a parenthesis, or bare with what passes
-pub operand-begins : {s : Settings} {cs : List Command} (bare : Bool) → (bare ≡ true → Begins s opening cs) → Begins s opening (bare-if bare cs)
-unfolding text written spell symbolText nameByte letter digit
-operand-begins true h = h refl
-operand-begins false h = record { first = λ x. refl }
-
-module _ {L : List ℕ → Token → Type 0} {W : List ℕ → Bool} {proper : Token → Bool} (law : Vocabulary spell proper L W) where
+module _ {wide : Bool} {L : List ℕ → Token → Type 0} {W : List ℕ → Bool} {proper : Token → Bool} (law : Spelling wide spell proper L W) where
   -- a proper token with a text behind it that does not make it longer
-  pub taken : (t : Token) → proper t ≡ true → {bs : List ℕ} {ts : List Token} → Clear t bs → Divides L W bs ts → Divides L W (spell t ++ bs) (t ∷ ts)
+  pub taken : (t : Token) → proper t ≡ true → {bs : List ℕ} {ts : List Token} → Clear wide t bs → Divides L W bs ts → Divides L W (spell t ++ bs) (t ∷ ts)
   taken t v {bs = bs} k d = take (law .spells t v) (longest bs k) d
     where
-      longest : (rest : List ℕ) → Clear t rest → Longest W (spell t) rest
-      longest rest k b more end e w = true-false (sym (law .longest t v b more w) ∙ subst (λ (r : List ℕ). Clear t r) e k)
+      longest : (rest : List ℕ) → Clear wide t rest → Longest W (spell t) rest
+      longest rest k b more end e w = true-false (sym (law .longest t v b more w) ∙ subst (λ (r : List ℕ). Clear wide t r) e k)
+
+  -- a token begins as it should
+  pub begins-token : (s : Settings) (t : Token) → proper t ≡ true → (x : FormattingState) (rest : List ℕ) → begins-with (opens t) (text s (a-token t) x ++ rest) ≡ true
+  unfolding text written
+  begins-token s t v x rest = rw (append-nil (spell t)) (begins-more (opens t) (spell t) rest (law .begins t v))
 
   module _ {s : Settings} where
     -- one token
-    pub a-part : (t : Token) → proper t ≡ true → Part L W s (λ u. u ≡ t) (a-token t)
+    pub a-part : (t : Token) → proper t ≡ true → Part wide L W s (λ u. u ≡ t) (a-token t)
     unfolding text tokensOf written after
     a-part t v = record { join = λ x rest us k d. rw (append-nil (spell t)) (taken t v (k t refl) d) }
 
-    pub begins-token : (t : Token) → proper t ≡ true → Begins s (opens t) (a-token t)
-    unfolding text written
-    begins-token t v = record { first = λ x. rw (append-nil (spell t)) (law .begins t v) }
-
     module _ (symbols : (y : Symbol) → proper (Token.symbol y) ≡ true) where
-      pub a-symbol-part : (y : Symbol) → Part L W s (λ u. u ≡ Token.symbol y) (a-symbol y)
+      pub a-symbol-part : (y : Symbol) → Part wide L W s (λ u. u ≡ Token.symbol y) (a-symbol y)
       a-symbol-part y = a-part (Token.symbol y) (symbols y)
 
       -- a symbol that nothing makes longer, as the last token
-      pub closing : (y : Symbol) → symbol-lengthens y ≡ "" → Part L W s (Ends false) (a-symbol y)
+      pub closing : (y : Symbol) → symbol-lengthens y ≡ "" → Part wide L W s (Ends false false) (a-symbol y)
       closing y e = wider (λ t q. rw q e) (a-symbol-part y)
 
       -- and before anything
-      pub opened : {F : Token → Type 0} {cs : List Command} (y : Symbol) → symbol-lengthens y ≡ "" → Part L W s F cs → Part L W s F (a-symbol y ++ cs)
-      opened {cs = cs} y e p = then (a-symbol-part y) (λ t q x rest. rw q (never-longer y (text s cs x ++ rest) e)) p
+      pub opened : {F : Token → Type 0} {cs : List Command} (y : Symbol) → symbol-lengthens y ≡ "" → Part wide L W s F cs → Part wide L W s F (a-symbol y ++ cs)
+      opened {cs = cs} y e p = then (a-symbol-part y) (λ t q x rest. rw q (never-longer wide y (text s cs x ++ rest) e)) p
 
       -- a symbol that stands clear behind the part before it
-      pub behind : {n : Bool} {cs : List Command} (y : Symbol) → ((t : Token) → Ends n t → (rest : List ℕ) → Clear t (bytes (symbolText y) ++ rest)) → symbol-lengthens y ≡ "" → Part L W s (Ends n) cs → Part L W s (Ends false) (cs ++ a-symbol y)
+      pub behind : {i o : Bool} {cs : List Command} (y : Symbol) → Operator y → symbol-lengthens y ≡ "" → Part wide L W s (Ends i o) cs → Part wide L W s (Ends false false) (cs ++ a-symbol y)
       unfolding text written spell
-      behind y h e p = then p (λ t q x rest. rw (append-nil (bytes (symbolText y))) (h t q rest)) (closing y e)
+      behind {i = i} {o = o} y h e p = then p (λ t q x rest. rw (append-nil (bytes (symbolText y))) (ends-before wide (bytes (symbolText y) ++ rest) (begins-more plain (bytes (symbolText y)) rest h) i o t q)) (closing y e)
 
-      pub in-parens : {n : Bool} {cs : List Command} → Part L W s (Ends n) cs → Part L W s (Ends false) (parenthesized cs)
+      pub in-parens : {i o : Bool} {cs : List Command} → Part wide L W s (Ends i o) cs → Part wide L W s (Ends false false) (parenthesized cs)
       unfolding symbol-lengthens symbolText nameByte letter digit
-      in-parens {n = n} p = behind right-paren (λ t q rest. ends-clear (code ")") refl refl n t q) refl (opened left-paren refl p)
+      in-parens p = behind right-paren refl refl (opened left-paren refl p)
 
-      pub in-brackets : {n : Bool} {cs : List Command} → Part L W s (Ends n) cs → Part L W s (Ends false) (in-square-brackets cs)
+      pub in-brackets : {i o : Bool} {cs : List Command} → Part wide L W s (Ends i o) cs → Part wide L W s (Ends false false) (in-square-brackets cs)
       unfolding symbol-lengthens symbolText nameByte letter digit
-      in-brackets {n = n} p = behind right-bracket (λ t q rest. ends-clear (code "]") refl refl n t q) refl (opened left-bracket refl p)
+      in-brackets p = behind right-bracket refl refl (opened left-bracket refl p)
 
       -- an index or a dimension; arguments
-      pub indexed : {n m : Bool} {cs ds : List Command} → Part L W s (Ends n) cs → Part L W s (Ends m) ds → Part L W s (Ends false) (cs ++ in-square-brackets ds)
+      pub indexed : {i o j p : Bool} {cs ds : List Command} → Part wide L W s (Ends i o) cs → Part wide L W s (Ends j p) ds → Part wide L W s (Ends false false) (cs ++ in-square-brackets ds)
       unfolding text written spell symbolText nameByte letter digit
-      indexed {n = n} p q = then p (λ t e x rest. ends-clear (code "[") refl refl n t e) (in-brackets q)
+      indexed {i = i} {o = o} p q = then p (λ t e x rest. ends-clear wide (code "[") refl refl i o t e) (in-brackets q)
 
-      pub called : {n m : Bool} {cs ds : List Command} → Part L W s (Ends n) cs → Part L W s (Ends m) ds → Part L W s (Ends false) (cs ++ parenthesized ds)
+      pub called : {i o j p : Bool} {cs ds : List Command} → Part wide L W s (Ends i o) cs → Part wide L W s (Ends j p) ds → Part wide L W s (Ends false false) (cs ++ parenthesized ds)
       unfolding text written spell symbolText nameByte letter digit
-      called {n = n} p q = then p (λ t e x rest. ends-clear (code "(") refl refl n t e) (in-parens q)
+      called {i = i} {o = o} p q = then p (λ t e x rest. ends-clear wide (code "(") refl refl i o t e) (in-parens q)
 
-      -- an operand, bare or in parentheses
-      pub operand : {n : Bool} {cs : List Command} (bare : Bool) → Part L W s (Ends n) cs → Part L W s (Ends true) (bare-if bare cs)
-      operand {n = n} true p = wider (ends-wider n) p
-      operand {n = n} false p = wider (ends-wider false) (in-parens p)
-
-      -- where it is bare only if it does not end in a number, it never does
-      pub no-number : {n : Bool} {cs : List Command} (bare : Bool) → (bare ≡ true → n ≡ false) → Part L W s (Ends n) cs → Part L W s (Ends false) (bare-if bare cs)
-      no-number {cs = cs} true h p = subst (λ (n : Bool). Part L W s (Ends n) cs) (h refl) p
-      no-number false h p = in-parens p
+      -- an operand, bare or in parentheses: it ends as it does where it is bare
+      pub operand : {i o j p : Bool} {cs : List Command} (bare : Bool) → (bare ≡ true → (t : Token) → Ends i o t → Ends j p t) → Part wide L W s (Ends i o) cs → Part wide L W s (Ends j p) (bare-if bare cs)
+      operand true h p = wider (h refl) p
+      operand {j = j} {p = q} false h p = wider (ends-least j q) (in-parens p)
 
       -- a comma, and a space if the settings say so
-      pub separated : {n m : Bool} {cs ds : List Command} → Part L W s (Ends n) cs → Part L W s (Ends m) ds → Part L W s (Ends m) (cs ++ write-list-separator ++ ds)
+      pub separated : {i o j p : Bool} {cs ds : List Command} → Part wide L W s (Ends i o) cs → Part wide L W s (Ends j p) ds → Part wide L W s (Ends j p) (cs ++ write-list-separator ++ ds)
       unfolding text written spell symbolText symbol-lengthens nameByte letter digit
-      separated {n = n} p q = after-gap (then p (λ t e x rest. ends-clear (code ",") refl refl n t e) (opened comma refl (spaced space-after-list-separator nothing))) q
+      separated {i = i} {o = o} p q = after-gap (then p (λ t e x rest. ends-clear wide (code ",") refl refl i o t e) (opened comma refl (spaced space-after-list-separator nothing))) q
 
-      -- an operator with spaces around it
-      module _ (on : flag s spaces-around-binary-ops ≡ true) where
-        pub between : {n m : Bool} {cs ds : List Command} (y : Symbol) → Part L W s (Ends n) cs → Part L W s (Ends m) ds → Part L W s (Ends m) (cs ++ write-binary-op y ++ ds)
-        between y p q = after-gap (then p (λ t e. space-behind s on t _) (spaced spaces-around-binary-ops (then (a-symbol-part y) (λ t e. space-behind s on t []) (spaced spaces-around-binary-ops nothing)))) q
+      -- an operator, with or without spaces around it
+      pub between : {i o j p : Bool} {cs ds : List Command} (y : Symbol) → Operator y → (flag s spaces-around-binary-ops ≡ false → (x : FormattingState) (rest : List ℕ) → Clear wide (Token.symbol y) (text s ds x ++ rest))
+          → Part wide L W s (Ends i o) cs → Part wide L W s (Ends j p) ds → Part wide L W s (Ends j p) (cs ++ write-binary-op y ++ ds)
+      between {i = i} {o = o} {cs = cs} {ds = ds} y h k p q =
+          rw (append-assoc cs (write-binary-op y) ds)
+          (then p (λ t e. gap-or wide s spaces-around-binary-ops t (a-symbol y ++ (space-if spaces-around-binary-ops ∷ ds)) (λ off x rest. ends-before wide (text s (a-symbol y ++ (space-if spaces-around-binary-ops ∷ ds)) x ++ rest) (operator-first y h s (space-if spaces-around-binary-ops ∷ ds) x rest) i o t e))
+          (spaced spaces-around-binary-ops
+          (then (a-symbol-part y) (λ t e x rest. rw e (gap-or wide s spaces-around-binary-ops (Token.symbol y) ds k x rest)) (spaced spaces-around-binary-ops q))))

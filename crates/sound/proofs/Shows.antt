@@ -9,10 +9,11 @@ use Rattle.words.specs.Symbol.Symbol.{right-paren, right-bracket, dot, colon, q
 use Rattle.text.specs.Token.Token.{symbol}
 use Rattle.text.specs.Tree.{Identifier, UnaryOp, BinaryOp, AssignmentOp, Expr, Exprs, FunIdentifier}
 use Rattle.text.specs.Tree.Expr.{no-expr, Variable, IntConst, UIntConst, BoolConst, FloatConst, DoubleConst, Unary, Binary, Ternary, Assignment, Bracket, FunCall, Dot, PostInc, PostDec, Comma}
+use Rattle.text.specs.Asked.{Flag}
 use Rattle.text.specs.Command.{Command, write-binary-op, write-list-separator}
 use Rattle.text.specs.Visible.{tokensOf}
 use Rattle.text.specs.Operator.{precedence, unary-symbol, binary-symbol, assignment-symbol}
-use Rattle.text.specs.Text.{a-symbol, show-identifier, parenthesized, in-square-brackets, bare-if}
+use Rattle.text.specs.Text.{a-symbol, show-identifier, parenthesized, in-square-brackets, bare-if, apart}
 use Rattle.grammar.specs.Strength.{under}
 use Rattle.grammar.specs.Chapter9.{Nonterminal, Value, Derives}
 use Rattle.grammar.specs.Chapter9.Nonterminal.{primary-expression, postfix-expression, function-identifier, unary-expression, logical-or-expression, conditional-expression, assignment-expression, expression}
@@ -31,6 +32,15 @@ pub record Shows (n : Nonterminal) (cs : List Command) (v : Value) : Type 0 wher
 -- a list between two
 pub tokens-between : (cs ws ds : List Command) → tokensOf (cs ++ ws ++ ds) ≡ tokensOf cs ++ (tokensOf ws ++ tokensOf ds)
 tokens-between cs ws ds = rw (tokens-append (cs ++ ws) ds, tokens-append cs ws) (append-assoc (tokensOf cs) (tokensOf ws) (tokensOf ds))
+
+-- a needed space is no token
+pub apart-tokens : (b : Bool) (f : Flag) (cs : List Command) → tokensOf (apart b f cs) ≡ tokensOf cs
+unfolding tokensOf
+apart-tokens true f cs = refl
+apart-tokens false f cs = refl
+
+pub apart-shown : {n : Nonterminal} {cs : List Command} {v : Value} (b : Bool) (f : Flag) → Shows n cs v → Shows n (apart b f cs) v
+apart-shown {cs = cs} b f s = record { derivation = rw (apart-tokens b f cs) (s .derivation) }
 
 -- operators
 
@@ -72,10 +82,10 @@ pub postfix-shown : {cs : List Command} {a : Expr} (p : PostfixOp) → Shows pos
 unfolding tokensOf
 postfix-shown {cs = cs} p s = record { derivation = rw (tokens-append cs (a-symbol (postfix-symbol p))) (postfixed p (s .derivation)) }
 
-pub field-shown : {cs : List Command} {a : Expr} (n : Identifier) → Shows postfix-expression cs (expr a)
-    → Shows postfix-expression (cs ++ a-symbol dot ++ show-identifier n) (expr (Dot n a))
+pub field-shown : {cs : List Command} {a : Expr} (n : Identifier) (b : Bool) (f : Flag) → Shows postfix-expression cs (expr a)
+    → Shows postfix-expression (cs ++ apart b f (a-symbol dot) ++ show-identifier n) (expr (Dot n a))
 unfolding tokensOf
-field-shown {cs = cs} n s = record { derivation = rw (tokens-between cs (a-symbol dot) (show-identifier n)) (postfix·field (s .derivation) n) }
+field-shown {cs = cs} n b f s = record { derivation = rw (tokens-between cs (apart b f (a-symbol dot)) (show-identifier n), apart-tokens b f (a-symbol dot)) (postfix·field (s .derivation) n) }
 
 pub index-shown : {cs ds : List Command} {a i : Expr} → Shows postfix-expression cs (expr a) → Shows expression ds (expr i)
     → Shows postfix-expression (cs ++ in-square-brackets ds) (expr (Bracket a i))

@@ -1,10 +1,12 @@
 -- Sound expressions (01, "Sound expression", every part included): a name for each of its conditions, then the condition on every part. The names that the
--- language lists as its own are a parameter. Assumes nothing.
+-- language lists as its own are a parameter, and so is whether the text keeps the spaces that it needs (`kept`, byte 21 of the settings; 02, #106): where it does, the conditions fall away that
+-- these spaces make superfluous. Assumes nothing.
 use mathlib.Core.Path.{_≡_}
-use mathlib.Core.Bool.{Bool, false}
+use mathlib.Core.Bool.{Bool, true, false, _||_}
 use mathlib.Core.List.{List}
 use Prim.Native.Nat.{ℕ, _≤_}
 use Rattle.decimal.specs.Decimal.{negative}
+use Rattle.settings.specs.declared.Settings.{Settings}
 use Rattle.text.specs.Tree.{Identifier, UnaryOp, Expr, Exprs, FunIdentifier, TypeSpecifier, TypeSpecifierNonArray, ArraySpecifier, ArraySpecifierDimension}
 use Rattle.text.specs.Tree.Expr.{no-expr, Variable, IntConst, UIntConst, BoolConst, FloatConst, DoubleConst, Unary, Binary, Ternary, Assignment, Bracket, FunCall, Dot, PostInc, PostDec, Comma}
 use Rattle.text.specs.Tree.Exprs.{no-exprs, exprs}
@@ -19,23 +21,23 @@ use Rattle.text.specs.Operator.{precedence, unary-precedence, ternary-precedenc
 abbrev pub NotNegative : ℕ → Type 0
 NotNegative n = negative n ≡ false
 
--- "no minus directly over Dec nor plus directly over Inc"
-pub data Mixed : UnaryOp → Expr → Type 0 where
-  minus-over-dec : {e : Expr} → Mixed UnaryOp.Minus (Unary UnaryOp.Dec e)
-  plus-over-inc : {e : Expr} → Mixed UnaryOp.Add (Unary UnaryOp.Inc e)
+-- "no minus directly over Dec nor plus directly over Inc", where no space is kept between the two
+pub data Mixed : (kept : Bool) → UnaryOp → Expr → Type 0 where
+  minus-over-dec : {e : Expr} → Mixed false UnaryOp.Minus (Unary UnaryOp.Dec e)
+  plus-over-inc : {e : Expr} → Mixed false UnaryOp.Add (Unary UnaryOp.Inc e)
 
-abbrev pub Unmixed : UnaryOp → Expr → Type 0
-Unmixed op e = Mixed op e → ⊥
+abbrev pub Unmixed : (kept : Bool) → UnaryOp → Expr → Type 0
+Unmixed kept op e = Mixed kept op e → ⊥
 
--- "no Dot directly over a numeric constant"
-pub data Numeric : Expr → Type 0 where
-  int : {n : ℕ} → Numeric (IntConst n)
-  uint : {n : ℕ} → Numeric (UIntConst n)
-  float : {t : List ℕ} → Numeric (FloatConst t)
-  double : {t : List ℕ} → Numeric (DoubleConst t)
+-- "no Dot directly over a numeric constant", or none over a UIntConst, FloatConst or DoubleConst where a space is kept behind an IntConst
+pub data Numeric : (kept : Bool) → Expr → Type 0 where
+  int : {n : ℕ} → Numeric false (IntConst n)
+  uint : {kept : Bool} {n : ℕ} → Numeric kept (UIntConst n)
+  float : {kept : Bool} {t : List ℕ} → Numeric kept (FloatConst t)
+  double : {kept : Bool} {t : List ℕ} → Numeric kept (DoubleConst t)
 
-abbrev pub NotNumeric : Expr → Type 0
-NotNumeric e = Numeric e → ⊥
+abbrev pub NotNumeric : (kept : Bool) → Expr → Type 0
+NotNumeric kept e = Numeric kept e → ⊥
 
 -- "no Comma directly as an argument": nothing else binds so weakly
 abbrev pub NoComma : Expr → Type 0
@@ -49,7 +51,7 @@ BindsAsTarget e = precedence e ≤ unary-precedence
 abbrev pub BindsAsDimension : Expr → Type 0
 BindsAsDimension e = precedence e ≤ ternary-precedence
 
-module _ (listed : List ℕ → Bool) where
+module _ (listed : List ℕ → Bool) (kept : Bool) where
   -- "no name that section 3.6 lists as a keyword or reserved word"
   abbrev pub NotListed : Identifier → Type 0
   NotListed n = listed n ≡ false
@@ -74,13 +76,13 @@ module _ (listed : List ℕ → Bool) where
     Sound (BoolConst b) = Unit
     Sound (FloatConst t) = Unit
     Sound (DoubleConst t) = Unit
-    Sound (Unary op e) = Unmixed op e × Sound e
+    Sound (Unary op e) = Unmixed kept op e × Sound e
     Sound (Binary op l r) = Sound l × Sound r
     Sound (Ternary c s e) = Sound c × Sound s × Sound e
     Sound (Assignment op v e) = BindsAsTarget v × Sound v × Sound e
     Sound (Bracket e a) = Sound e × Sound a
     Sound (FunCall f es) = SoundCallee f × SoundArguments es
-    Sound (Dot i e) = NotNumeric e × NotListed i × Sound e
+    Sound (Dot i e) = NotNumeric kept e × NotListed i × Sound e
     Sound (PostInc e) = Sound e
     Sound (PostDec e) = Sound e
     Sound (Comma a b) = Sound a × Sound b
@@ -105,3 +107,11 @@ module _ (listed : List ℕ → Bool) where
     SoundDimension no-dimension = ⊥
     SoundDimension Unsized = Unit
     SoundDimension (ExplicitlySized e) = BindsAsDimension e × Sound e
+
+-- sound in a text under these settings
+abbrev pub SoundUnder : (listed : List ℕ → Bool) → Settings → Expr → Type 0
+SoundUnder listed s e = Sound listed (s .«spaces_where_needed») e
+
+-- settings under which no two tokens of a sound expression are read as one: with spaces around operators (00, demand 3), or with spaces where they are needed (02, #106)
+abbrev pub KeepsApart : Settings → Type 0
+KeepsApart s = s .«spaces_around_binary_ops» || s .«spaces_where_needed» ≡ true

@@ -8,3 +8,4 @@ pub mod At
 pub mod Grouped
 pub mod ByKind
 pub mod Bare
+pub mod Span

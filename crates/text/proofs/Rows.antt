@@ -1,4 +1,4 @@
--- Document 01's texts to match, and some of our own, from the bytes of the records: one table, one theorem, by computation. Assumes nothing.
+-- Document 01's texts to match, those of #103 and #106, and some of our own, from the bytes of the records: one table, one theorem, by computation. Assumes nothing.
 use Prim.Native.Nat.{ℕ}
 use Prim.Native.String.{String}
 use mathlib.Core.Path.{_≡_, refl}
@@ -7,7 +7,7 @@ use mathlib.Core.List.{List, [], _∷_, _++_, map}
 use mathlib.Core.Option.{Option, none, some}
 use Rattle.words.specs.Bytes.{bytes}
 use Rattle.records.proofs.Made.{rec, plain, many, named}
-use Rattle.settings.specs.Settings.{TIGHT, OPEN}
+use Rattle.settings.specs.Settings.{TIGHT, OPEN, EXPORT}
 use Rattle.text.specs.Case.{Case, defined}
 use Rattle.text.proofs.Computing.{computing}
 
@@ -130,6 +130,40 @@ rows-of-103 =
     ++ expr (many 12 0 ++ plain 20 1 ++ plain 21 2 ++ sized ++ negate ++ decrement ++ var 0) "a" "int[---a]()" "int[---a]()" true
     ++ expr (many 12 0 ++ plain 20 0 ++ many 23 1 ++ many 26 1 ++ keyword 2 ++ named 27 1 0 ++ sized ++ negate ++ decrement ++ var 1) "ab" "struct {int a[---b];}()" "struct  {\n    int a[---b];\n}()" true
 
+-- 02, #106: an expression, and a unit, under EXPORT and under OPEN with byte 21 at 1; then 22 bytes with the last at 0, which are as 21
+abbrev open-needed : List ℕ
+open-needed = OPEN ++ 1 ∷ []
+
+abbrev exprApart : List ℕ → String → String → String → Bool → List Case
+exprApart rs ns t o j = row false (some j) EXPORT rs ns t ++ row false (some j) open-needed rs ns o
+
+abbrev unitApart : List ℕ → String → String → String → List Case
+unitApart rs ns t o = unitIn EXPORT rs ns t ++ unitIn open-needed rs ns o
+
+abbrev returns-minus-dec : List ℕ
+returns-minus-dec = many 80 1 ++ function 0 ++ block 1 ++ plain 68 4 ++ negate ++ decrement ++ var 1
+
+abbrev pub rows-of-106 : List Case
+rows-of-106 =
+    exprApart (minus ++ var 0 ++ negate ++ var 1) "ab" "a- -b" "a - -b" true
+    ++ exprApart (minus ++ var 0 ++ decrement ++ var 1) "nk" "n- --k" "n - --k" true
+    ++ exprApart (minus ++ plain 15 0 ++ var 0 ++ var 1) "ab" "a---b" "a-- - b" false
+    ++ exprApart (negate ++ decrement ++ var 0) "a" "- --a" "- --a" true
+    ++ exprApart (decrement ++ negate ++ var 0) "a" "---a" "---a" false
+    ++ exprApart (posit ++ increment ++ var 0) "a" "+ ++a" "+ ++a" true
+    ++ exprApart (negate ++ negate ++ var 0) "a" "-(-a)" "-(-a)" false
+    ++ exprApart (minus ++ var 0 ++ minus-one) "a" "a- -1" "a - -1" true
+    ++ exprApart (negate ++ minus-one) "" "- -1" "- -1" true
+    ++ exprApart (minus ++ var 0 ++ plain 8 16 ++ negate ++ var 1 ++ var 2) "abc" "a- -b*c" "a - -b * c" true
+    ++ exprApart (negate ++ many 12 0 ++ negate ++ var 0) "a" "- -a()" "- -a()" true
+    ++ exprApart (field 0 ++ int 1) "x" "1 .x" "1 .x" true
+    ++ exprApart (field 0 ++ minus-one) "x" "-1 .x" "-1 .x" true
+    ++ exprApart (field 0 ++ rec 3 0 0 1 0) "x" "1u.x" "1u.x" false
+    ++ exprApart (many 12 0 ++ plain 20 1 ++ plain 21 2 ++ sized ++ negate ++ decrement ++ var 0) "a" "int[- --a]()" "int[- --a]()" true
+    ++ unitApart returns-minus-dec "fa" "void f(){return - --a;}" "void f() {\n    return - --a;\n}\n"
+    ++ unitIn (TIGHT ++ 0 ∷ []) returns-minus-dec "fa" "void f(){return ---a;}"
+    ++ unitIn (OPEN ++ 0 ∷ []) returns-minus-dec "fa" "void f() {\n    return ---a;\n}\n"
+
 -- what no row of document 01 sees: a flush, collapse, nested blocks (texts of the Rust module)
 abbrev if-else : List ℕ
 if-else = many 80 1 ++ function 0 ++ block 1 ++ plain 62 1 ++ var 1 ++ block 1 ++ return ++ block 1 ++ return
@@ -148,7 +182,7 @@ our-rows =
     ++ unit nested-structs "sSxt" "struct S{struct {float x;} t;} s;" "struct S {\n    struct  {\n        float x;\n    } t;\n} s;"
 
 abbrev pub rows : List Case
-rows = rows-of-01 ++ rows-of-103 ++ our-rows
+rows = rows-of-01 ++ rows-of-103 ++ rows-of-106 ++ our-rows
 
 -- the definition gives each row's outcome
 pub match : map defined rows ≡ map (λ c. c .outcome) rows

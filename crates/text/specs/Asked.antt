@@ -1,5 +1,5 @@
--- What a command can ask the settings for: the flags and the whitespaces of FormattingSettings, by name. Assumes nothing.
-use mathlib.Core.Bool.{Bool}
+-- What a command can ask the settings for: the flags and the whitespaces of FormattingSettings, by name, and whether spaces stand where they are needed. Assumes nothing.
+use mathlib.Core.Bool.{Bool, not, _&&_}
 use Rattle.settings.specs.declared.Settings.{Settings}
 use Rattle.settings.specs.declared.Whitespace.{Whitespace}
 
@@ -9,6 +9,8 @@ pub data Flag : Type 0 where
   newline-after-collapsed-statement newline-before-collapsed-statement : Flag
   spaces-around-binary-ops space-before-else space-after-list-separator space-after-for-statement-separator : Flag
   spaces-surrounding-initializer-list-expressions spaces-surrounding-statement-parentheses : Flag
+  -- where two tokens would be read as one (02, #106); the second behind a binary operator, where an operator space may stand already
+  spaces-where-needed needed-operator-spaces : Flag
 
 -- struct_declaration_terminator is asked for by show_struct alone, which 01 leaves out
 pub data Gap : Type 0 where
@@ -28,6 +30,8 @@ flag s space-after-list-separator = s .«space_after_list_separator»
 flag s space-after-for-statement-separator = s .«space_after_for_statement_separator»
 flag s spaces-surrounding-initializer-list-expressions = s .«spaces_surrounding_initializer_list_expressions»
 flag s spaces-surrounding-statement-parentheses = s .«spaces_surrounding_statement_parentheses»
+flag s spaces-where-needed = s .«spaces_where_needed»
+flag s needed-operator-spaces = s .«spaces_where_needed» && not (s .«spaces_around_binary_ops»)
 
 unfoldable pub gap : Settings → Gap → Whitespace
 gap s struct-field-separator = s .«struct_field_separator»

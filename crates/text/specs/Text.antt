@@ -1,4 +1,4 @@
--- The text of each tree, as commands: the printers of 000. A definition `show-..` is 000's function of that name; where a name is ours, a comment says
+-- The text of each tree, as commands: the printers of 000, and the spaces that are needed (02, #106). A definition `show-..` is 000's function of that name; where a name is ours, a comment says
 -- which function it is a part of. What is used stands above what uses it. Assumes nothing.
 use mathlib.Core.Bool.{Bool, true, false, not, _&&_, cond}
 use mathlib.Core.List.{List, [], _∷_, _++_}
@@ -9,9 +9,12 @@ use Rattle.words.specs.Word.{Word, StorageQualifier}
 use Rattle.words.specs.Symbol.{Symbol}
 use Rattle.decimal.specs.Decimal.{negative, magnitude}
 use Rattle.text.specs.Token.{Token}
+use Rattle.text.specs.Asked.{Flag}
+use Rattle.text.specs.Asked.Flag.{spaces-where-needed, needed-operator-spaces}
 use Rattle.text.specs.Command.{Command, word, symbol, enter-compound-statement-block, enter-external-declaration, enter-block, exit-block, enter-collapsed-compound-statement, exit-collapsed-compound-statement, enter-initializer-list, end-initializer-list, enter-case-label, write-else, write-struct-field-separator, write-list-separator, write-for-statement-separator, write-declaration-terminator, write-binary-op, write-statement-terminator, write-function-definition-terminator, write-statement-opening-parenthesis, write-statement-closing-parenthesis}
-use Rattle.text.specs.Command.Command.{token, space, flush-line, flush-space, consume-newline, enter-function-definition-statement, consume-function-definition-statement}
+use Rattle.text.specs.Command.Command.{token, space, space-if, flush-line, flush-space, consume-newline, enter-function-definition-statement, consume-function-definition-statement}
 use Rattle.text.specs.Operator.{postfix-precedence, ternary-precedence, assignment-precedence, comma-precedence, binary-precedence, binary-symbol, precedence, unary-symbol, assignment-symbol, bare-operand, bare-right}
+use Rattle.text.specs.Joins.{joins-under, joins-right, is-int}
 use Rattle.text.specs.Tree.{Identifier, Expr, Exprs, FunIdentifier, TypeSpecifier, TypeSpecifiers, TypeSpecifierNonArray, ArraySpecifier, ArraySpecifierDimension, StructFieldSpecifier, StructFieldSpecifiers, ArrayedIdentifier, ArrayedIdentifiers, Qualification, TypeQualifier, TypeQualifierSpec, LayoutQualifier, LayoutQualifierSpec, FullySpecifiedType, FunctionParameterDeclaration, FunctionPrototype, Initializer, Initializers, SingleDeclaration, SingleDeclarationNoType, InitDeclaratorList, Block, Declaration, Condition, ForInitStatement, JumpStatement, Statement, Statements, ExternalDeclaration, TranslationUnit}
 
 -- small lists, for `write!`, `f.write_char` and `f.write_str`
@@ -42,6 +45,11 @@ in-square-brackets cs = a-symbol Symbol.left-bracket ++ cs ++ a-symbol Symbol.ri
 abbrev pub bare-if : Bool → List Command → List Command
 bare-if true cs = cs
 bare-if false cs = parenthesized cs
+
+-- where the rule of specs/Joins has a place (02, #106): one space, if a flag asks for it, before what would be read as one with what stands before it
+abbrev pub apart : (joined : Bool) → Flag → List Command → List Command
+apart true f cs = space-if f ∷ cs
+apart false f cs = cs
 
 -- in a list: a separator before each but the first, which 000 takes off the iterator
 abbrev pub separator : (first : Bool) → List Command
@@ -156,16 +164,18 @@ unfoldable mutual
   show-expr (Expr.BoolConst b) = a-word (bool-word b)
   show-expr (Expr.FloatConst t) = a-token (Token.float t)
   show-expr (Expr.DoubleConst t) = a-token (Token.double t)
-  show-expr (Expr.Unary op e) = a-symbol (unary-symbol op) ++ bare-if (bare-operand op e) (show-expr e)
+  show-expr (Expr.Unary op e) = a-symbol (unary-symbol op) ++ apart (joins-under op e) spaces-where-needed (bare-if (bare-operand op e) (show-expr e))
   show-expr (Expr.Binary op l r) =
-      bare-if (leb (precedence l) (binary-precedence op)) (show-expr l) ++ write-binary-op (binary-symbol op) ++ bare-if (bare-right op r) (show-expr r)
+      bare-if (leb (precedence l) (binary-precedence op)) (show-expr l)
+      ++ write-binary-op (binary-symbol op)
+      ++ apart (joins-right op r) needed-operator-spaces (bare-if (bare-right op r) (show-expr r))
   show-expr (Expr.Ternary c s e) =
       bare-if (ltb (precedence c) ternary-precedence) (show-expr c) ++ write-binary-op Symbol.question ++ show-expr s ++ write-binary-op Symbol.colon ++ bare-if (leb (precedence e) ternary-precedence) (show-expr e)
   show-expr (Expr.Assignment op v e) =
       bare-if (ltb (precedence v) assignment-precedence) (show-expr v) ++ write-binary-op (assignment-symbol op) ++ bare-if (leb (precedence e) assignment-precedence) (show-expr e)
   show-expr (Expr.Bracket e a) = bare-if (leb (precedence e) postfix-precedence) (show-expr e) ++ in-square-brackets (show-expr a)
   show-expr (Expr.FunCall f es) = show-function-identifier f ++ parenthesized (show-exprs es true)
-  show-expr (Expr.Dot i e) = bare-if (leb (precedence e) postfix-precedence) (show-expr e) ++ a-symbol Symbol.dot ++ show-identifier i
+  show-expr (Expr.Dot i e) = bare-if (leb (precedence e) postfix-precedence) (show-expr e) ++ apart (is-int e) spaces-where-needed (a-symbol Symbol.dot) ++ show-identifier i
   show-expr (Expr.PostInc e) = bare-if (ltb (precedence e) postfix-precedence) (show-expr e) ++ a-symbol Symbol.inc-op
   show-expr (Expr.PostDec e) = bare-if (ltb (precedence e) postfix-precedence) (show-expr e) ++ a-symbol Symbol.dec-op
   show-expr (Expr.Comma a b) = bare-if (leb (precedence a) comma-precedence) (show-expr a) ++ write-list-separator ++ bare-if (ltb (precedence b) comma-precedence) (show-expr b)

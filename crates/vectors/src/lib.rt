@@ -1,1 +1,1 @@
-// Answers of the Rust module about the text, each a theorem about the definition of the text. The substance is in proofs/.
+// Answers about the text, of the Rust module and, with byte 21 at 1, of the oracle's second printer: each a theorem about the definition of the text. The substance is in proofs/.

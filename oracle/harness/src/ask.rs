@@ -18,6 +18,8 @@ pub struct Said {
     pub is_good: bool,
     /// Whether it is joined, where that was compared.
     pub joined: Option<bool>,
+    /// How many needed spaces are in the text that was compared.
+    pub needed: usize,
     /// Prints into a room that fits, a larger one, and one that is a byte too small.
     pub rooms: [u64; 3],
     /// Where they differ first: the oracle's answer and the library's.
@@ -101,6 +103,7 @@ pub fn print(library: Print, joined: Check, question: &Question) -> Said {
         Outcome::Given(text) => {
             let (text, length) = (text.as_bytes(), text.len());
             said.is_good = true;
+            said.needed = answer.needed;
             for room in [length, length + 7] {
                 said.print(library, question, room, Code::given(length), text);
             }
@@ -148,7 +151,7 @@ impl Said {
 mod tests {
     use super::*;
     use oracle::answer::Root;
-    use oracle::cases::tight;
+    use oracle::cases::{tight, with_spaces};
     use oracle::tree::{all, plain, var};
 
     /// `a--b`, which is joined.
@@ -187,6 +190,14 @@ mod tests {
         assert_eq!((said.is_good, said.joined, said.calls[0], said.calls[13]), (true, Some(true), 3, 1));
         assert_eq!(said.rooms, [1; 3]);
         assert!(check(|_| 4, &question()).difference.is_none());
+    }
+
+    #[test]
+    fn needed_spaces_are_counted() {
+        let [_, export, open] = with_spaces(question()).map(|question| print(print_well, |_| 1, &question));
+        assert_eq!([export.needed, open.needed], [1, 0]);
+        // The printer knows nothing of them.
+        assert!(export.difference.is_some() && open.difference.is_some());
     }
 
     #[test]

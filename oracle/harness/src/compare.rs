@@ -2,8 +2,7 @@
 
 use crate::ask::{Said, NUMBERS};
 use oracle::answer::{Question, Root};
-use oracle::cases::{cover, damage, large, limits, short, signs};
-use oracle::exact;
+use oracle::cases::{cover, damage, large, limits, short, signs, small, with_spaces};
 use oracle::grow;
 use oracle::line;
 use oracle::random::Random;
@@ -34,6 +33,8 @@ struct Tally {
     calls: [u64; NUMBERS],
     /// Joined questions that the oracle answers by no, and by yes.
     joined: [u64; 2],
+    /// Questions whose text has needed spaces.
+    spaced: u64,
     /// Prints into a room that fits, a larger one, and one that is a byte too small.
     rooms: [u64; 3],
     differing: u64,
@@ -49,6 +50,7 @@ impl Tally {
         if let Some(is_joined) = said.joined {
             self.joined[usize::from(is_joined)] += 1;
         }
+        self.spaced += u64::from(said.needed > 0);
         let Some(difference) = said.difference else {
             return;
         };
@@ -63,6 +65,7 @@ impl Tally {
     fn add(&mut self, other: &Self) {
         self.questions += other.questions;
         self.differing += other.differing;
+        self.spaced += other.spaced;
         add(&mut self.calls, &other.calls);
         add(&mut self.joined, &other.joined);
         add(&mut self.rooms, &other.rooms);
@@ -72,13 +75,11 @@ impl Tally {
     fn print(&self, name: &str) {
         let calls: u64 = self.calls.iter().sum();
         let [no, yes] = self.joined;
-        let columns = [self.questions, calls, self.differing, no, yes].into_iter().chain(self.calls);
+        let columns = [self.questions, calls, self.differing, no, yes, self.spaced].into_iter().chain(self.calls);
         println!("{name:<18}{}", columns.map(|count| format!("{count:>9}")).collect::<String>());
         if let Some((question, [oracle, library])) = &self.shortest {
             // As `oracle answer` reads it.
-            let Question { root, settings, records, names } = question;
-            let [settings, records, names] = [settings, records, names].map(|bytes| line::hex(bytes));
-            println!("    {root:?} {settings} {records} {names}\n    oracle:  {oracle}\n    library: {library}");
+            println!("    {}\n    oracle:  {oracle}\n    library: {library}", line::asked(question));
         }
     }
 }
@@ -92,7 +93,7 @@ fn add(sums: &mut [u64], counts: &[u64]) {
 
 /// The line above the tallies'.
 fn heading(root: Root) -> String {
-    let columns = ["asked", "calls", "differ", "apart", "joined", "good"].into_iter().map(str::to_owned);
+    let columns = ["asked", "calls", "differ", "apart", "joined", "spaced", "good"].into_iter().map(str::to_owned);
     let columns = columns.chain((1..NUMBERS).map(|number| number.to_string()));
     format!("{:<18}{}", format!("{root:?} questions"), columns.map(|word| format!("{word:>9}")).collect::<String>())
 }
@@ -157,9 +158,17 @@ fn is_joined_both_ways([apart, joined]: [u64; 2]) -> bool {
     both
 }
 
+/// Whether texts had needed spaces, given how many; says so where none had.
+fn is_spaced(texts: u64) -> bool {
+    if texts == 0 {
+        println!("no text had a needed space, but some must");
+    }
+    texts > 0
+}
+
 /// Asks everything with this root; prints a line for each family, the sum, and the shortest question of each family that
 /// differs. Whether nothing differs, every kind and variant, and every value of every settings byte, was met in good trees,
-/// and expressions in which signs meet were joined as well as apart.
+/// expressions in which signs meet were joined as well as apart, and needed spaces were printed.
 pub fn run(root: Root, seed: u64, cases: u64, ask: impl Fn(&Question) -> Said) -> bool {
     let trees = cover::smallest(root, seed, GROWN_TO_CHOOSE);
     let words = limits::near_words();
@@ -192,10 +201,12 @@ pub fn run(root: Root, seed: u64, cases: u64, ask: impl Fn(&Question) -> Said) -
     // The joined question is asked beside the prints, about expressions.
     let is_asked = is_printed && root == Root::Expr;
     let both_ways = !is_asked || is_joined_both_ways(signs);
-    met.print(is_printed) && both_ways && all.differing == 0
+    let spaced = !is_printed || is_spaced(all.spaced);
+    met.print(is_printed) && both_ways && spaced && all.differing == 0
 }
 
-/// All questions, with other roots too. `trees` show every kind and variant.
+/// All questions, with other roots too. `trees` show every kind and variant. Settings of 22 bytes are among those of grown trees
+/// and of their damages; trees in which signs meet are asked for with them too; to the others they are given at random.
 fn families<'a>(
     root: Root,
     seed: u64,
@@ -208,7 +219,7 @@ fn families<'a>(
     let grown = move || (0..cases).map(move |case| grow::rooted(root, seed, case));
     let others = [Root::Unit, Root::Expr].into_iter().filter(move |&other| other != root);
     let others = others.flat_map(move |other| (0..cases).map(move |case| grow::rooted(other, seed, case)));
-    vec![
+    let of_grown = [
         family("whole", Box::new(grown())),
         family("of the other call", Box::new(others.map(|question| damage::other_root(&question)))),
         family("record bytes", Box::new(trees.iter().flat_map(|tree| damage::record_bytes(tree, every_byte)))),
@@ -219,6 +230,15 @@ fn families<'a>(
         family("settings", Box::new(trees.iter().flat_map(damage::settings))),
         family("words", Box::new(trees.iter().flat_map(|tree| damage::texts(tree, words)))),
         family("several damages", Box::new(grown().zip(0..).flat_map(move |(tree, case)| several(seed, case, &tree)))),
+    ];
+    let of_others = others_in_tight(root, seed, cases, trees).into_iter().map(|family| lengthened(seed, family));
+    of_grown.into_iter().chain(of_others).chain(of_signs()).collect()
+}
+
+/// Families whose questions are all in TIGHT, or in OPEN.
+fn others_in_tight(root: Root, seed: u64, cases: u64, trees: &[Question]) -> [Family<'_>; 11] {
+    let family = |name, questions| Family { name, questions };
+    [
         family("one record", Box::new(short::one())),
         family("in each place", Box::new(short::in_places())),
         family("two in places", Box::new(short::two_in_places())),
@@ -229,10 +249,31 @@ fn families<'a>(
         family("long texts", Box::new(limits::long_texts())),
         family("short texts", Box::new(limits::short_texts())),
         family("offsets", Box::new(limits::offsets())),
-        family(SIGNS, Box::new(signs::questions())),
-        family("all small", Box::new(exact::questions(SMALL).into_iter())),
         family("large", Box::new((0..cases.div_ceil(1_000)).flat_map(move |case| large_ones(root, seed, case)))),
     ]
+}
+
+/// Families of trees in which signs may meet, each asked for without needed spaces and with them.
+fn of_signs<'a>() -> [Family<'a>; 3] {
+    let signs = signs::questions().chain(signs::in_units());
+    [
+        Family { name: SIGNS, questions: Box::new(signs.flat_map(with_spaces)) },
+        Family { name: "deepest", questions: Box::new(limits::deepest().flat_map(with_spaces)) },
+        Family { name: "all small", questions: Box::new(small::questions(SMALL).into_iter().flat_map(with_spaces)) },
+    ]
+}
+
+/// Gives settings of 21 bytes a byte 21, of 0 or of 1, or none. At random: in turns, since trees of some families come by
+/// threes, each sort would have its own.
+fn lengthened(seed: u64, family: Family<'_>) -> Family<'_> {
+    let questions = family.questions.zip(0..).map(move |(mut question, case)| {
+        if question.settings.len() == settings::SIZE {
+            let byte = Random::new(seed, case).weighted(&[(1, None), (1, Some(0)), (1, Some(1))]);
+            question.settings.extend(byte.flatten());
+        }
+        question
+    });
+    Family { questions: Box::new(questions), ..family }
 }
 
 /// A tree with one to four damages, twice each.
@@ -254,12 +295,29 @@ fn large_ones(root: Root, seed: u64, case: u64) -> Vec<Question> {
 #[cfg(test)]
 mod tests {
     use super::*;
+    use std::collections::BTreeSet;
 
     #[test]
     fn signs_are_among_the_questions() {
         let families = families(Root::Expr, 1, 0, &[], &[], &[]);
         let signs = families.into_iter().find(|family| family.name == SIGNS);
         assert!(signs.is_some_and(|family| family.questions.count() > 100_000));
+    }
+
+    /// None, 0 and 1, to each place of a family that comes by threes.
+    #[test]
+    fn settings_are_lengthened_in_every_way() {
+        let numbers = Family { name: "numbers", questions: Box::new(limits::whole_numbers()) };
+        let ways = lengthened(1, numbers)
+            .questions
+            .enumerate()
+            .map(|(at, question)| (at % 3, question.settings.get(settings::SPACES_WHERE_NEEDED).copied()));
+        assert_eq!(ways.collect::<BTreeSet<_>>().len(), 9);
+    }
+
+    #[test]
+    fn texts_without_needed_spaces_are_too_few() {
+        assert!(is_spaced(1) && !is_spaced(0));
     }
 
     #[test]

@@ -34,9 +34,10 @@ enum Tree {
     Expr(ast::Expr),
 }
 
-/// A question in TIGHT and in OPEN, and its tree.
+/// A question in TIGHT, in EXPORT and in OPEN, and its tree.
 struct Sample {
     tight: Question,
+    export: Question,
     open: Question,
     tree: Tree,
 }
@@ -48,8 +49,9 @@ impl Sample {
             Root::Unit => Tree::Unit(read::unit(records, names)?.tree),
             Root::Expr => Tree::Expr(read::expr(records, names)?.tree),
         };
-        let open = Question { settings: settings::OPEN.to_vec(), ..tight.clone() };
-        Ok(Self { tight, open, tree })
+        let with = |settings: &[u8]| Question { settings: settings.to_vec(), ..tight.clone() };
+        let (export, open) = (with(&settings::EXPORT), with(&settings::OPEN));
+        Ok(Self { tight, export, open, tree })
     }
 
     fn records(&self) -> usize {
@@ -83,7 +85,7 @@ impl Call {
 }
 
 /// The record check first, if there is one; the print and the joined question, if there are; these of another build, if
-/// there is one; and the Rust module's print.
+/// there is one; and the Rust module's print. Another build and the Rust module know nothing of needed spaces.
 fn calls(root: Root, before: Option<Loaded>) -> Result<Vec<Call>, Refusal> {
     let mut calls = Vec::new();
     if let Some(check) = library::CHECK {
@@ -92,6 +94,7 @@ fn calls(root: Root, before: Option<Loaded>) -> Result<Vec<Call>, Refusal> {
     if let Some(linked) = library::CALLS {
         let print = linked.print(root);
         calls.push(Call::new("print TIGHT", move |sample, room| print(&sample.tight, room)));
+        calls.push(Call::new("print EXPORT", move |sample, room| print(&sample.export, room)));
         calls.push(Call::new("print OPEN", move |sample, room| print(&sample.open, room)));
         if root == Root::Expr {
             calls.push(Call::new("joined", move |sample, _| (linked.joined)(&sample.tight)));
@@ -105,7 +108,7 @@ fn calls(root: Root, before: Option<Loaded>) -> Result<Vec<Call>, Refusal> {
         }
     }
     for (name, bytes) in [("Rust TIGHT", settings::TIGHT), ("Rust OPEN", settings::OPEN)] {
-        let settings = settings::read(&bytes)?;
+        let settings = settings::read(&bytes)?.module;
         calls.push(Call::new(name, move |sample, _| sample.rust_print(&settings)));
     }
     Ok(calls)

@@ -268,8 +268,9 @@ mod tests {
     fn settings_are_refused_or_read() {
         let damaged: Vec<Question> = settings(&base()).collect();
         let good = damaged.iter().filter(|question| crate::settings::read(&question.settings).is_ok());
-        let values: usize = crate::settings::GREATEST.iter().map(|&greatest| usize::from(greatest) + 1).sum();
-        assert_eq!((good.count(), damaged.len()), (values, 22 + 21 * 20));
+        // Each value of each of 21 bytes, and a byte 21 behind them, which is 0.
+        let values = crate::settings::values().filter(|&(at, _)| at < crate::settings::SIZE).count();
+        assert_eq!((good.count(), damaged.len()), (values + 1, 22 + 21 * 20));
     }
 
     #[test]

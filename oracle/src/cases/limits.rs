@@ -48,16 +48,19 @@ impl Nest {
     }
 }
 
+fn all_nests() -> impl Iterator<Item = Nest> {
+    nests().chain(sign_nests())
+}
+
 /// One nest for each way in which kinds can hold each other without end.
-fn nests() -> Vec<Nest> {
+fn nests() -> impl Iterator<Item = Nest> {
+    expr_nests().into_iter().chain(struct_nests()).chain(statement_nests())
+}
+
+/// Expressions in expressions.
+fn expr_nests() -> [Nest; 14] {
     let none = Vec::new;
-    let structure = all(&[&plain(20, 0), &many(23, 1)]);
-    let field = all(&[&structure, &many(26, 1)]);
-    let qualified = all(&[&structure, &rec(26, 1, 1, 0, 0), &many(28, 1)]);
-    let name = named(27, 0, 0);
-    let typed_name = all(&[&keyword(2), &name]);
-    let initialized = all(&[&many(80, 1), &plain(47, 1), &plain(42, 0), &named(43, 5, 0), &plain(31, 0), &keyword(2)]);
-    vec![
+    [
         Nest::expr(plain(7, 0), none()),
         Nest::expr(plain(8, 0), var(0)),
         Nest::expr(all(&[&plain(8, 18), &var(0)]), none()),
@@ -72,10 +75,20 @@ fn nests() -> Vec<Nest> {
         Nest::expr(plain(14, 0), none()),
         Nest::expr(plain(15, 0), none()),
         Nest::expr(plain(16, 0), var(0)),
+    ]
+}
+
+/// Expressions in types, and structs in structs and as types of a subroutine.
+fn struct_nests() -> [Nest; 4] {
+    let structure = all(&[&plain(20, 0), &many(23, 1)]);
+    let field = all(&[&structure, &many(26, 1)]);
+    let qualified = all(&[&structure, &rec(26, 1, 1, 0, 0), &many(28, 1)]);
+    let name = named(27, 0, 0);
+    let typed_name = all(&[&keyword(2), &name]);
+    [
         // A dimension in a callee's type; a layout id's expression in a field of a callee's struct.
-        Nest::expr(all(&[&many(12, 0), &plain(20, 1), &plain(21, 0), &many(24, 1), &plain(25, 1)]), none()),
+        Nest::expr(all(&[&many(12, 0), &plain(20, 1), &plain(21, 0), &many(24, 1), &plain(25, 1)]), Vec::new()),
         Nest::expr(all(&[&many(12, 0), &qualified, &rec(29, 18, 1, 0, 0), &named(30, 1, 0)]), typed_name.clone()),
-        // Structs in structs, and as types of a subroutine.
         Nest { start: many(12, 0), inner: keyword(2), ..Nest::expr(field, name) },
         Nest {
             root: Root::Unit,
@@ -85,6 +98,14 @@ fn nests() -> Vec<Nest> {
             close: typed_name.clone(),
             end: typed_name,
         },
+    ]
+}
+
+/// Statements in statements, and initializers in initializers.
+fn statement_nests() -> [Nest; 9] {
+    let none = Vec::new;
+    let initialized = all(&[&many(80, 1), &plain(47, 1), &plain(42, 0), &named(43, 5, 0), &plain(31, 0), &keyword(2)]);
+    [
         Nest::statement(many(60, 1), none()),
         Nest::statement(all(&[&plain(62, 0), &var(0)]), none()),
         Nest::statement(all(&[&plain(62, 1), &var(0)]), plain(61, 0)),
@@ -101,6 +122,24 @@ fn nests() -> Vec<Nest> {
             close: none(),
             end: none(),
         },
+    ]
+}
+
+/// Signs that meet in every layer, and signs, and an int and a dot, that meet through all of them (02, #103).
+fn sign_nests() -> [Nest; 5] {
+    let [minus, less] = [plain(7, 3), all(&[&plain(8, 15), &var(0)])];
+    let negative = all(&[&minus, &var(0)]);
+    let through = |start: &[u8], inner: &[u8], open, close| Nest {
+        start: start.to_vec(),
+        inner: inner.to_vec(),
+        ..Nest::expr(open, close)
+    };
+    [
+        Nest::expr(all(&[&minus, &plain(7, 1)]), Vec::new()),
+        Nest::expr(all(&[&minus, &many(12, 0)]), Vec::new()),
+        through(&less, &int(u32::MAX), named(13, 0, 0), Vec::new()),
+        through(&minus, &negative, many(12, 0), Vec::new()),
+        through(&less, &negative, plain(8, 16), var(0)),
     ]
 }
 
@@ -127,7 +166,7 @@ pub fn deepest() -> impl Iterator<Item = Question> {
 
 /// The deepest good tree of every nest, and the one that is a layer deeper.
 pub fn around_deepest() -> impl Iterator<Item = [Question; 2]> {
-    nests().into_iter().map(|nest| {
+    all_nests().map(|nest| {
         let first = nest.first_too_deep();
         [first - 1, first].map(|layers| nest.of(layers).0)
     })
@@ -135,7 +174,7 @@ pub fn around_deepest() -> impl Iterator<Item = [Question; 2]> {
 
 /// Trees of every nest around the greatest depth, whole and with damages in the deepest records.
 pub fn deep() -> impl Iterator<Item = Question> {
-    nests().into_iter().flat_map(|nest| {
+    all_nests().flat_map(|nest| {
         let first = nest.first_too_deep();
         let trees: Vec<_> = (first - 2..first + 2).map(|layers| nest.of(layers)).collect();
         trees.into_iter().flat_map(|(question, inner)| with_bytes_set(question, inner, [0, 1, 47, 255]))
@@ -145,7 +184,7 @@ pub fn deep() -> impl Iterator<Item = Question> {
 /// Every nest of a unit at every depth up to the deepest and one beyond it, with a newline wherever one can stand and the
 /// widest indents, of spaces and of tabs.
 pub fn levels() -> impl Iterator<Item = Question> {
-    nests().into_iter().filter(|nest| nest.root == Root::Unit).flat_map(|nest| {
+    nests().filter(|nest| nest.root == Root::Unit).flat_map(|nest| {
         (2..=nest.first_too_deep()).flat_map(move |layers| {
             [1, 2].map(|style| {
                 let mut settings = settings::OPEN;
@@ -342,10 +381,20 @@ mod tests {
 
     #[test]
     fn every_nest_meets_the_limit() {
-        for (at, nest) in nests().iter().enumerate() {
+        for (at, nest) in all_nests().enumerate() {
             assert!((3..=200).contains(&nest.first_too_deep()), "nest {at}");
         }
         assert!(deepest().all(|question| read::refusal(&question).is_none()));
+    }
+
+    #[test]
+    fn signs_meet_in_the_deepest_trees() {
+        let spaces = |nest: &Nest| {
+            let settings = settings::EXPORT.to_vec();
+            answer(&Question { settings, ..nest.of(nest.first_too_deep() - 1).0 }).needed
+        };
+        // The innermost minus of the second stands over a name's call. The third has a space before its dot too.
+        assert_eq!(sign_nests().map(|nest| spaces(&nest)), [99, 98, 2, 1, 1]);
     }
 
     #[test]

@@ -1,9 +1,9 @@
 //! Expressions in which signs meet, or nearly do: operators over operands of every kind, which begin with a sign or not, in
-//! every sort of place. They are about the joined question (01, "Calls"; 02, #103).
+//! every sort of place, of units too. They are about the joined question (01, "Calls"; 02, #103) and needed spaces (02, #106).
 
 use super::tight;
 use crate::answer::{Question, Root};
-use crate::tree::{all, int, keyword, many, named, plain, rec, var};
+use crate::tree::{all, function, int, keyword, many, named, plain, rec, var};
 
 /// The names `a`, `b`, `f`, and behind them the float texts `1` and `1.5`.
 const NAMES: &str = "abf1.5";
@@ -29,14 +29,19 @@ impl Frame {
 /// Nothing around the expression.
 const ALONE: Frame = Frame { front: Vec::new(), behind: Vec::new() };
 
-/// All questions. Operators stand over everything, in each place; over what the first operand of a first operand begins with;
-/// and what can be joined is an operand of everything.
+/// All questions about expressions. Operators stand over everything, in each place; over what the first operand of a
+/// first operand begins with; and what can be joined is an operand of everything.
 pub fn questions() -> impl Iterator<Item = Question> {
     let placed = over(places().into_iter().chain([ALONE]).collect(), over(operators(), operands().into_iter()));
     let nested = over(operators(), twice_framed());
     let deep = over(signs(), three_times_first());
     let within = over(frames(), nearly_joined());
     placed.chain(nested).chain(deep).chain(within).map(|records| tight(Root::Expr, records, NAMES))
+}
+
+/// Questions about units: what is joined or nearly so stands in each of their places.
+pub fn in_units() -> impl Iterator<Item = Question> {
+    over(unit_places(), nearly_joined()).map(|records| tight(Root::Unit, records, NAMES))
 }
 
 /// Each expression in each of the frames.
@@ -161,12 +166,81 @@ fn places() -> Vec<Frame> {
     ]
 }
 
+/// Where an expression stands in a unit.
+fn unit_places() -> Vec<Frame> {
+    let unit = many(80, 1);
+    let declarations = in_declarations().into_iter().map(|frame| Frame { front: all(&[&unit, &frame.front]), ..frame });
+    let body = all(&[&unit, &function(2), &many(60, 1)]);
+    let statements = in_statements().into_iter().map(|frame| Frame { front: all(&[&body, &frame.front]), ..frame });
+    declarations.chain(statements).collect()
+}
+
+/// A list of declarators whose first is `int a`, with so many others behind it.
+fn first_declarator(variant: u8, others: u16) -> Vec<u8> {
+    all(&[&plain(47, 1), &many(42, others), &named(43, variant, 0), &plain(31, 0), &keyword(2)])
+}
+
+/// In a declaration: as an initializer, a dimension of each sort of type and name, or a layout's value.
+fn in_declarations() -> Vec<Frame> {
+    let sized = all(&[&many(24, 1), &plain(25, 1)]);
+    let array = all(&[&plain(20, 1), &plain(21, 2), &sized]);
+    let sized_name = all(&[&named(27, 1, 1), &sized]);
+    let typed = all(&[&plain(47, 1), &plain(42, 0), &named(43, 1, 0), &plain(31, 0)]);
+    let prototype = |count: u16| all(&[&plain(47, 0), &rec(40, 0, count, 2, 1), &plain(31, 0)]);
+    let parameter = all(&[&prototype(1), &keyword(0)]);
+    let qualifier = all(&[&plain(47, 5), &many(28, 1)]);
+    let block = |variant, count| all(&[&plain(47, 3), &rec(46, variant, count, 2, 1), &many(28, 1), &plain(29, 7)]);
+    let (simple, next) = (plain(45, 0), first_declarator(1, 1));
+    vec![
+        Frame::new(&[&first_declarator(5, 0), &simple], &[]),
+        Frame::new(&[&first_declarator(5, 0), &rec(45, 1, 2, 0, 0), &simple], &[&simple, &int(1)]),
+        Frame::new(&[&next, &plain(44, 1), &named(27, 0, 1), &simple], &[]),
+        Frame::new(&[&next, &plain(44, 0), &sized_name], &[]),
+        Frame::new(&[&first_declarator(3, 0), &sized], &[]),
+        Frame::new(&[&typed, &array], &[]),
+        Frame::new(&[&typed, &plain(20, 0), &many(23, 1), &many(26, 1), &array], &[&named(27, 0, 1)]),
+        Frame::new(&[&prototype(0), &array], &[]),
+        Frame::new(&[&parameter, &plain(41, 0), &array], &[]),
+        Frame::new(&[&parameter, &plain(41, 1), &keyword(2), &sized_name], &[]),
+        Frame::new(&[&plain(47, 2), &plain(29, 19), &array], &[]),
+        Frame::new(&[&block(0, 1), &many(26, 1), &keyword(2), &sized_name], &[]),
+        Frame::new(&[&block(1, 0), &sized_name], &[]),
+        Frame::new(&[&qualifier, &rec(29, 18, 1, 0, 0), &named(30, 1, 0)], &[]),
+        Frame::new(&[&qualifier, &rec(29, 17, 1, 0, 0), &array], &[]),
+    ]
+}
+
+/// In a statement: by itself, as a condition of each sort, in the head of a `switch` or of a `for`, behind `case` or `return`.
+fn in_statements() -> Vec<Frame> {
+    let (empty, simple) = (plain(61, 0), plain(45, 0));
+    let initialized = all(&[&first_declarator(5, 0), &simple]);
+    let assigned = all(&[&named(69, 1, 0), &plain(31, 0), &keyword(2), &simple]);
+    let no_start = plain(70, 0);
+    vec![
+        Frame::new(&[&plain(61, 1)], &[]),
+        Frame::new(&[&initialized], &[]),
+        Frame::new(&[&plain(62, 0)], &[&empty]),
+        Frame::new(&[&plain(62, 1), &var(0), &empty, &plain(61, 1)], &[]),
+        Frame::new(&[&many(63, 0)], &[]),
+        Frame::new(&[&plain(64, 1)], &[]),
+        Frame::new(&[&plain(65, 0), &plain(69, 0)], &[&empty]),
+        Frame::new(&[&plain(65, 0), &assigned], &[&empty]),
+        Frame::new(&[&plain(66, 0), &empty], &[]),
+        Frame::new(&[&plain(67, 0), &plain(70, 1)], &[&empty]),
+        Frame::new(&[&plain(67, 0), &plain(70, 2), &initialized], &[&empty]),
+        Frame::new(&[&plain(67, 1), &no_start, &plain(69, 0)], &[&empty]),
+        Frame::new(&[&plain(67, 1), &no_start, &assigned], &[&empty]),
+        Frame::new(&[&plain(67, 2), &no_start], &[&empty]),
+        Frame::new(&[&plain(68, 4)], &[]),
+    ]
+}
+
 #[cfg(test)]
 mod tests {
     use super::*;
-    use crate::joined::{is_joined, is_joined_only_by, JOINTS};
-    use crate::read;
+    use crate::joined::{is_joined, JOINTS};
     use crate::record::SIZE;
+    use crate::{read, tokens};
     use std::collections::BTreeSet;
 
     /// All are good; each sort of joint is met alone, and so is none.
@@ -177,9 +251,10 @@ mod tests {
             let tree = read::expr(&question.records, &question.names).expect("a good tree");
             assert_eq!(tree.unlike_display, None);
             all += 1;
-            apart += usize::from(!is_joined(&tree.tree));
+            let tokens = tokens::expr(&tree.tree);
+            apart += usize::from(!tokens.are_joined());
             for (count, joint) in alone.iter_mut().zip(JOINTS) {
-                *count += usize::from(is_joined_only_by(&tree.tree, joint));
+                *count += usize::from(tokens.are_joined_only_by(joint));
             }
         }
         assert!(all < 170_000, "{all}");
@@ -207,12 +282,26 @@ mod tests {
     fn every_frame_is_around_every_sort_of_joint() {
         let is_alone = |records: &[u8], joint| {
             let whole = read::expr(records, NAMES.as_bytes()).expect("a good tree");
-            is_joined_only_by(&whole.tree, joint)
+            tokens::expr(&whole.tree).are_joined_only_by(joint)
         };
         for frame in frames() {
             let trees: Vec<_> = over(vec![frame], nearly_joined()).collect();
             assert!(JOINTS.into_iter().all(|joint| trees.iter().any(|records| is_alone(records, joint))));
         }
+    }
+
+    /// In every place of a unit each sort of joint is met, and none.
+    #[test]
+    fn every_place_of_a_unit_is_around_every_sort_of_joint() {
+        for place in unit_places() {
+            let mut met = BTreeSet::new();
+            for records in over(vec![place], nearly_joined()) {
+                let tree = read::unit(&records, NAMES.as_bytes()).expect("a good tree").tree;
+                met.insert(tokens::unit(&tree, false).joints().next());
+            }
+            assert_eq!(met, JOINTS.into_iter().map(Some).chain([None]).collect());
+        }
+        assert_eq!(in_units().count(), 30 * nearly_joined().count());
     }
 
     /// Every kind with operands stands directly over every other, and deeper all of those that have a first one.

@@ -44,20 +44,22 @@ impl Grower {
     }
 
     fn question(mut self, root: Root) -> Question {
-        let settings = self.settings();
+        let mut settings = self.settings();
         let room = self.room();
         match root {
             Root::Unit => self.unit(room),
             Root::Expr => self.expr(room),
         }
+        // Behind the tree, so that a seed's trees are those that it had before there was a byte 21 (02, #106).
+        settings.extend(self.random.weighted(&[(40, None), (20, Some(0)), (40, Some(1))]).flatten());
         Question { root, settings, records: self.records, names: self.names }
     }
 
-    /// Settings: TIGHT, OPEN, or anything in range.
+    /// The 21 bytes that every settings record has: TIGHT, OPEN, or anything in range.
     fn settings(&mut self) -> Vec<u8> {
         match self.random.weighted(&[(15, Some(settings::TIGHT)), (15, Some(settings::OPEN)), (70, None)]).flatten() {
             Some(constant) => constant.to_vec(),
-            None => settings::GREATEST.iter().map(|&greatest| self.random.byte(greatest)).collect(),
+            None => settings::GREATEST[..settings::SIZE].iter().map(|&greatest| self.random.byte(greatest)).collect(),
         }
     }
 

@@ -63,7 +63,7 @@ fn called(call: u8, mut state: FormattingState<'_>) -> FormattingState<'_> {
 /// A case: the call, and what is seen before it and behind it.
 fn cases() -> Vec<(u8, Seen, Seen)> {
     // With these a statement that is collapsed asks for no newline.
-    let settings = settings::read(&settings::TIGHT).expect("TIGHT is good");
+    let settings = settings::tight();
     let fresh = FormattingState::from(&settings);
     let before = LEVELS.into_iter().flat_map(|level| (0..FLAGS).map(move |flags| (flags, level)));
     let states: Vec<_> = before.map(|seen| made(fresh, seen)).collect();

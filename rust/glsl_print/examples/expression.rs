@@ -1,6 +1,6 @@
-//! Prints n - --k, which once left the desk as n---k: readers take that for n-- - k.
+//! Prints n - --k, which once left the desk as n---k: readers take that for n-- - k. EXPORT keeps the space that is needed.
 
-use glsl_print::{joined, print_expr, record, Refused, OPEN, TIGHT};
+use glsl_print::{joined, print_expr, record, Refused, EXPORT, OPEN, TIGHT};
 
 fn main() -> Result<(), Refused> {
     // Records in preorder: kind, variant, count, a, b.
@@ -16,6 +16,7 @@ fn main() -> Result<(), Refused> {
 
     println!("OPEN: {}", print_expr(&OPEN, &records, names, &mut room)?);
     println!("TIGHT: {}", print_expr(&TIGHT, &records, names, &mut room)?);
+    println!("EXPORT: {}", print_expr(&EXPORT, &records, names, &mut room)?);
     println!("joined: {}", if joined(&records, names)? { "yes" } else { "no" });
     // The place of this refusal is the length needed.
     if let Err(refused) = print_expr(&OPEN, &records, names, &mut room[..6]) {

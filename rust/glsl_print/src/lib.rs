@@ -1,16 +1,17 @@
 //! The proved GLSL printer, called from safe Rust.
 //!
-//! A tree comes as records of 12 bytes ([`record`]) with a buffer of names, the layout as 21 bytes of settings ([`TIGHT`], [`OPEN`]
-//! or others); GLSL comes out in a room that the caller lends. docs/RECORDS.md of the repository has all kinds of records and all
-//! settings, byte by byte.
+//! A tree comes as records of 12 bytes ([`record`]) with a buffer of names, the layout as 21 or 22 bytes of settings ([`EXPORT`] for
+//! exports, [`OPEN`] for people, [`TIGHT`] or others); GLSL comes out in a room that the caller lends. docs/RECORDS.md of the
+//! repository has all kinds of records and all settings, byte by byte.
 //!
 //! ```
-//! use glsl_print::{print_expr, record, OPEN};
+//! use glsl_print::{print_expr, record, EXPORT, OPEN};
 //!
 //! // a - -b: a binary minus of the variable a and of the unary minus of the variable b.
 //! let records = [record(8, 15, 0, 0, 0), record(1, 0, 0, 0, 1), record(7, 3, 0, 0, 0), record(1, 0, 0, 1, 1)].concat();
 //! let mut room = [0; 64];
 //! assert_eq!(print_expr(&OPEN, &records, b"ab", &mut room)?, "a - -b");
+//! assert_eq!(print_expr(&EXPORT, &records, b"ab", &mut room)?, "a- -b");
 //! # Ok::<(), glsl_print::Refused>(())
 //! ```
 //!
@@ -21,14 +22,17 @@
 //!
 //! # What a text is read as
 //!
-//! With spaces around operators (settings byte 12, as in [`OPEN`]) the text of a sound expression is read by GLSL 4.60's grammar as
-//! that expression and as no other; that is proved too. Sound leaves out a few shapes that are misread under any settings, among
-//! them minus over `--a`, which is printed as `---a`, minus over a negative IntConst, `--1`, and a field of an IntConst, `1.lf`.
-//! Without these spaces ([`TIGHT`]) signs can meet: `n - --k` is printed as `n---k`, which is read as `n-- - k`. [`joined`] tells
-//! beforehand whether signs meet somewhere, or a dot and a whole number; that texts without these spaces are read as they were meant
-//! otherwise is not proved. Of units nothing is promised but their text: an `if` without an `else` that is the first statement of an
-//! `if` with one takes that `else` when it is read, under any settings. docs/READING.md and docs/DIFFERENCES.md of the repository say
-//! more.
+//! With the needed spaces (settings byte 21, as in [`EXPORT`]) or spaces around operators (byte 12, as in [`OPEN`]) the text of a
+//! sound expression is read by GLSL 4.60's grammar as that expression and as no other; that is proved too. Sound leaves out a few
+//! shapes that are misread under any settings, among them a negative IntConst: `-1` is read as minus over 1. With byte 21 at 0 it
+//! also leaves out minus over `--a`, which is then printed as `---a`, plus over `++a`, and a field of an IntConst, `1.lf`.
+//!
+//! With neither ([`TIGHT`]) signs can meet: `n - --k` is printed as `n---k`, which is read as `n-- - k`. [`joined`] tells beforehand
+//! whether signs meet somewhere, or a dot and a whole number; that such texts are read as they were meant otherwise is not proved.
+//!
+//! Of units nothing is promised but their text, in which every expression has its spaces: an `if` without an `else` that is the first
+//! statement of an `if` with one takes that `else` when it is read, under any settings. docs/READING.md and docs/DIFFERENCES.md of
+//! the repository say more.
 //!
 //! # Stack
 //!
@@ -45,13 +49,16 @@ mod refusal;
 
 pub use refusal::{Refusal, Refused};
 
-/// A settings record: how a text is laid out.
+/// A settings record of 21 bytes: how a text is laid out. The calls take any slice; one of 22 bytes, as [`EXPORT`], also says whether
+/// the needed spaces are written. 21 bytes mean that they are not.
 pub type Settings = [u8; 21];
 
+/// For exports: [`TIGHT`] with the needed spaces (byte 21), one where two tokens would be read as one and nowhere else: `n- --k`,
+/// `- --a`, `1 .x`. Sound expressions are read as they were meant, so there is no need to ask [`joined`].
+pub const EXPORT: [u8; 22] = [0, 0, 0, 0, 0, 0, 0, 0, 0, 0, 0, 0, 0, 0, 0, 0, 0, 0, 0, 0, 0, 1];
+
 /// The least space: none around operators, no line breaks. The text can be read as ANOTHER expression than the tree's, as `n---k` for
-/// `n - --k`: ask [`joined`] first, and where it answers true print with spaces around operators (byte 12). They keep a binary
-/// operator and its operand apart. No settings keep the other two sorts apart (see [`joined`]): such a tree is not sound, and only
-/// another tree helps.
+/// `n - --k`: use [`EXPORT`], or ask [`joined`] first.
 pub const TIGHT: Settings = [0; 21];
 
 /// For people: spaces around operators, a line for each statement, indents of four spaces. Sound expressions are read as they were
@@ -140,8 +147,9 @@ pub fn print_expr_growing<'room>(
 ///   over the IntConst -1;
 /// - a Dot stands directly over an IntConst: `1.lf`.
 ///
-/// The two signs, or number and dot, are then read as one token. Spaces around operators (settings byte 12) keep the first sort apart;
-/// the other two are printed so under all settings (they are not sound).
+/// The two signs, or number and dot, are then read as one token. The needed spaces (settings byte 21, as in [`EXPORT`]) keep all three
+/// sorts apart, and where they are on there is no need to ask; spaces around operators (byte 12) by themselves keep the first sort
+/// apart.
 ///
 /// ```
 /// use glsl_print::{joined, record};

@@ -7,7 +7,7 @@ use std::fmt;
 /// 11 the first faulty record decides.
 #[derive(Clone, Copy, Debug, PartialEq, Eq, PartialOrd, Ord, Hash)]
 pub enum Refusal {
-    /// Settings not 21 bytes, or a byte out of range. The place is 0.
+    /// Settings neither 21 nor 22 bytes, or a byte out of range. The place is 0.
     SettingsOutOfRange = 1,
     /// Records empty, not whole, or above 4,096. The place is 0.
     RecordsOutOfSize = 2,
@@ -62,7 +62,7 @@ impl Refusal {
 impl fmt::Display for Refusal {
     fn fmt(&self, f: &mut fmt::Formatter<'_>) -> fmt::Result {
         f.write_str(match self {
-            Self::SettingsOutOfRange => "settings not 21 bytes, or a byte out of range",
+            Self::SettingsOutOfRange => "settings neither 21 nor 22 bytes, or a byte out of range",
             Self::RecordsOutOfSize => "records empty, not whole, or above 4,096",
             Self::NamesOutOfSize => "names above 32,768 bytes",
             Self::RecordMissing => "a record is expected, none is left",

@@ -1,7 +1,8 @@
-//! The calls through the binding: document 01's texts, and each refusal with its place and every byte of the room.
+//! The calls through the binding: the texts of documents 01 and 02, and each refusal with its place and every byte of the room.
 
 use glsl_print::{
-    joined, print_expr, print_expr_growing, print_unit, print_unit_growing, record, Refusal, Refused, OPEN, TIGHT,
+    joined, print_expr, print_expr_growing, print_unit, print_unit_growing, record, Refusal, Refused, Settings, EXPORT,
+    OPEN, TIGHT,
 };
 
 /// The names of every tree here: one letter each, by its offset.
@@ -35,15 +36,36 @@ const TERNARY: Record = record(9, 0, 0, 0, 0);
 const NOT: Record = record(7, 4, 0, 0, 0);
 const ONE: Record = record(2, 0, 0, 1, 0);
 
-/// An expression is printed so in TIGHT and in OPEN, and is joined or not.
+/// Settings with byte 21.
+fn with_byte_21(settings: Settings, byte: u8) -> [u8; 22] {
+    let mut longer = [byte; 22];
+    longer[..21].copy_from_slice(&settings);
+    longer
+}
+
+/// An expression is printed so in TIGHT and in OPEN, and is joined or not. A byte 21 of 0 alters nothing; one of 1 alters only texts
+/// of what is joined, and of these always TIGHT's.
 fn expression(records: &[Record], tight: &str, open: &str, is_joined: bool) {
     let records = records.concat();
     let mut room = [BLANK; 64];
     for (settings, text) in [(TIGHT, tight), (OPEN, open)] {
         assert_eq!(print_expr(&settings, &records, NAMES, &mut room), Ok(text));
         assert_eq!(print_expr_growing(&settings, &records, NAMES, &mut Vec::new()), Ok(text));
+        assert_eq!(print_expr(&with_byte_21(settings, 0), &records, NAMES, &mut room), Ok(text));
+        let needed = print_expr(&with_byte_21(settings, 1), &records, NAMES, &mut room);
+        assert!(needed == Ok(text) || is_joined, "{needed:?}");
     }
     assert_eq!(joined(&records, NAMES), Ok(is_joined), "{tight}");
+    assert_eq!(print_expr(&EXPORT, &records, NAMES, &mut room) != Ok(tight), is_joined, "{tight}");
+}
+
+/// An expression is printed so with the needed spaces, in TIGHT and in OPEN.
+fn spaced(records: &[Record], tight: &str, open: &str) {
+    let records = records.concat();
+    let mut room = [BLANK; 64];
+    assert_eq!(print_expr(&EXPORT, &records, NAMES, &mut room), Ok(tight));
+    assert_eq!(print_expr_growing(&EXPORT, &records, NAMES, &mut Vec::new()), Ok(tight));
+    assert_eq!(print_expr(&with_byte_21(OPEN, 1), &records, NAMES, &mut room), Ok(open));
 }
 
 #[test]
@@ -93,9 +115,39 @@ fn joined_of_request_103() {
     expression(&structure, "struct {int a[---b];}()", "struct  {\n    int a[---b];\n}()", true);
 }
 
+/// The needed spaces of request #106. Operator spaces put one of their own, but only for a binary operator.
 #[test]
-fn units_of_document_01() {
-    let unit = |settings, records: &[Record], text| {
+fn needed_spaces_of_request_106() {
+    let [plus, increment, minus_one] = [plain(7, 2), plain(7, 0), record(2, 0, 0, u32::MAX, 0)];
+    let [add, call, field] = [plain(8, 14), plain(12, 0), named(13, 0, b'x')];
+    let [a, b, c] = [b'a', b'b', b'c'].map(variable);
+    spaced(&[MINUS, a, NEGATIVE, b], "a- -b", "a - -b");
+    spaced(&[MINUS, a, DECREMENT, b], "a- --b", "a - --b");
+    spaced(&[MINUS, DECREMENT_BEHIND, a, b], "a---b", "a-- - b");
+    spaced(&[add, a, increment, b], "a+ ++b", "a + ++b");
+    spaced(&[add, a, NEGATIVE, b], "a+-b", "a + -b");
+    spaced(&[NEGATIVE, DECREMENT, a], "- --a", "- --a");
+    spaced(&[DECREMENT, NEGATIVE, a], "---a", "---a");
+    spaced(&[plus, increment, a], "+ ++a", "+ ++a");
+    spaced(&[NEGATIVE, NEGATIVE, a], "-(-a)", "-(-a)");
+    spaced(&[MINUS, a, plain(8, 16), NEGATIVE, b, c], "a- -b*c", "a - -b * c");
+    spaced(&[MINUS, a, NEGATIVE, DECREMENT, b], "a- - --b", "a - - --b");
+    spaced(&[field, ONE], "1 .x", "1 .x");
+    spaced(&[field, field, ONE], "1 .x.x", "1 .x.x");
+    spaced(&[field, record(3, 0, 0, 1, 0)], "1u.x", "1u.x");
+    spaced(&[field, named(5, 0, b'1')], "1..x", "1..x");
+    // What is not sound has them too.
+    spaced(&[MINUS, a, minus_one], "a- -1", "a - -1");
+    spaced(&[NEGATIVE, minus_one], "- -1", "- -1");
+    spaced(&[field, minus_one], "-1 .x", "-1 .x");
+    spaced(&[NEGATIVE, call, NEGATIVE, a], "- -a()", "- -a()");
+    let dimension = [call, plain(20, 1), plain(21, 2), record(24, 0, 1, 0, 0), plain(25, 1), NEGATIVE, DECREMENT, a];
+    spaced(&dimension, "int[- --a]()", "int[- --a]()");
+}
+
+#[test]
+fn units_of_documents_01_and_02() {
+    let unit = |settings: &[u8], records: &[Record], text| {
         let records = records.concat();
         assert_eq!(print_unit(settings, &records, NAMES, &mut [BLANK; 64]), Ok(text));
         assert_eq!(print_unit_growing(settings, &records, NAMES, &mut Vec::new()), Ok(text));
@@ -108,6 +160,16 @@ fn units_of_document_01() {
     let function = [&head[..], &[plain(68, 4), NEGATIVE, variable(b'a')]].concat();
     unit(&TIGHT, &function, "void f(){return -a;}");
     unit(&OPEN, &function, "void f() {\n    return -a;\n}\n");
+    unit(&EXPORT, &function, "void f(){return -a;}");
+    // The expressions of a unit have the needed spaces too.
+    let function = [&head[..], &[plain(68, 4), NEGATIVE, DECREMENT, variable(b'a')]].concat();
+    unit(&TIGHT, &function, "void f(){return ---a;}");
+    unit(&with_byte_21(TIGHT, 0), &function, "void f(){return ---a;}");
+    unit(&EXPORT, &function, "void f(){return - --a;}");
+    unit(&with_byte_21(OPEN, 1), &function, "void f() {\n    return - --a;\n}\n");
+    let function = [&head[..], &[plain(68, 4), MINUS, variable(b'a'), DECREMENT, variable(b'b')]].concat();
+    unit(&EXPORT, &function, "void f(){return a- --b;}");
+    unit(&with_byte_21(OPEN, 1), &function, "void f() {\n    return a - --b;\n}\n");
 }
 
 /// The unit `int x;`.
@@ -138,6 +200,20 @@ fn a_room_that_is_a_byte_too_small_is_refused() {
     assert_eq!(print_unit(&OPEN, &X.concat(), NAMES, &mut room), Ok("int x;"));
 }
 
+/// A needed space counts: `a- -b` has five bytes.
+#[test]
+fn a_room_without_a_byte_for_the_needed_space_is_refused() {
+    let records = [MINUS, variable(b'a'), NEGATIVE, variable(b'b')].concat();
+    let mut room = [BLANK; 6];
+    let refused = Refused { refusal: Refusal::RoomTooSmall, place: 5 };
+    assert_eq!(print_expr(&EXPORT, &records, NAMES, &mut room[..4]), Err(refused));
+    assert_eq!(print_expr(&EXPORT, &records, NAMES, &mut []), Err(refused));
+    assert_eq!(room, [BLANK; 6]);
+    assert_eq!(print_expr(&TIGHT, &records, NAMES, &mut room[..4]), Ok("a--b"));
+    assert_eq!(print_expr(&EXPORT, &records, NAMES, &mut room[..5]), Ok("a- -b"));
+    assert_eq!(room, *b"a- -b\xa5");
+}
+
 #[test]
 fn a_room_grows_as_far_as_needed_and_never_shrinks() {
     let mut room = vec![BLANK; 2];
@@ -164,9 +240,9 @@ fn refused(settings: &[u8], records: &[u8], names: &[u8], refusal: Refusal, plac
 #[test]
 fn bad_settings_are_refused() {
     let a = variable(b'a');
-    let mut beyond = OPEN;
+    let mut beyond = with_byte_21(OPEN, 1);
     beyond[0] = 3;
-    for settings in [&[], &OPEN[..20], &[0; 22], &beyond] {
+    for settings in [&[], &OPEN[..20], &[0; 23], &beyond[..21], &beyond, &with_byte_21(OPEN, 2)] {
         refused(settings, &a, NAMES, Refusal::SettingsOutOfRange, 0);
         // Before what else is wrong.
         refused(settings, &[], NAMES, Refusal::SettingsOutOfRange, 0);
@@ -216,10 +292,14 @@ fn the_deepest_unit_fits_the_stack_that_is_asked_for() {
 
 #[test]
 fn the_deepest_expression_fits_the_stack_that_is_asked_for() {
-    let records = [vec![NOT; 199], vec![variable(b'a')]].concat().concat();
-    let both = move || {
-        let text = print_expr_growing(&TIGHT, &records, NAMES, &mut Vec::new()).map(str::len);
-        (text, joined(&records, NAMES))
-    };
-    assert_eq!(on_the_stack_asked_for(both), (Ok(200), Ok(false)));
+    // `!!..a`, and `- ---- --..a`, in which every minus needs a space but the last.
+    let [not, minus] = [vec![NOT; 199], [[NEGATIVE, DECREMENT].repeat(99), vec![NEGATIVE]].concat()];
+    for (operators, lengths, is_joined) in [(not, [200, 200], false), (minus, [299, 299 + 99], true)] {
+        let records = [operators, vec![variable(b'a')]].concat().concat();
+        let all = move || {
+            let length = |settings| print_expr_growing(settings, &records, NAMES, &mut Vec::new()).map(str::len);
+            ([length(&TIGHT), length(&EXPORT)], joined(&records, NAMES))
+        };
+        assert_eq!(on_the_stack_asked_for(all), (lengths.map(Ok), Ok(is_joined)));
+    }
 }

@@ -1,6 +1,6 @@
 //! The header for C says what this crate says: the same refusals by name, number and meaning, and the same settings.
 
-use glsl_print::{Refusal, Settings, OPEN, TIGHT};
+use glsl_print::{Refusal, EXPORT, OPEN, TIGHT};
 
 const HEADER: &str = include_str!("../../../include/glsl_print.h");
 
@@ -25,11 +25,14 @@ fn refusals_are_the_same() {
 
 #[test]
 fn settings_are_the_same() {
-    let array = |name: &str, settings: Settings| {
-        let bytes = settings.map(|byte| byte.to_string()).join(", ");
-        format!("static const uint8_t {name}[GLSL_SETTINGS_LENGTH] = {{{bytes}}};")
-    };
-    for array in [array("GLSL_TIGHT", TIGHT), array("GLSL_OPEN", OPEN)] {
+    for (name, length, settings) in [
+        ("GLSL_EXPORT", "GLSL_EXPORT_LENGTH", &EXPORT[..]),
+        ("GLSL_TIGHT", "GLSL_SETTINGS_LENGTH", &TIGHT),
+        ("GLSL_OPEN", "GLSL_SETTINGS_LENGTH", &OPEN),
+    ] {
+        let bytes: Vec<String> = settings.iter().map(u8::to_string).collect();
+        let array = format!("static const uint8_t {name}[{length}] = {{{}}};", bytes.join(", "));
         assert!(HEADER.contains(&array), "{array}");
+        assert!(HEADER.contains(&format!("{length} = {}", settings.len())), "{length}");
     }
 }

@@ -11,7 +11,7 @@ const ROOM: usize = 65_536;
 
 /// What each refusal means and what its place is, from number 1 on.
 pub const REFUSALS: [(&str, &str); 13] = [
-    ("the settings are not 21 bytes, or one of these is out of range", "0"),
+    ("the settings are neither 21 nor 22 bytes, or one of these is out of range", "0"),
     ("there are no records, the bytes are no whole records, or there are more than 4,096", "0"),
     ("the names have more than 32,768 bytes", "0"),
     ("a record is expected, and none is left", "the number of records"),
@@ -230,6 +230,13 @@ mod tests {
         assert!(explained("2 0 0 5 6", 9, 0).ends_with("it has count 0, a 5, b 6; it uses a alone"));
         assert!(explained("80 0 0 5", 9, 0).ends_with("it uses the count alone"));
         assert!(explained("1 0 0 5 6", 10, 0).ends_with("it begins at 5 and has 6 bytes; the names have 0"));
+    }
+
+    #[test]
+    fn settings_that_are_none() {
+        let said = "refusal 1: the settings are neither 21 nor 22 bytes, or one of these is out of range\n\
+                    place 0 says nothing: the tree was not looked at";
+        assert_eq!(explained("Unit", 1, 0), said);
     }
 
     #[test]

@@ -104,7 +104,9 @@ fn the_column_printed_is_how_trees_are_printed() {
     for example in examples() {
         let read = |end: &str| std::fs::read(example.with_extension(end)).expect("it is there");
         let tree = tree_of(&String::from_utf8(read("txt")).expect("it is ASCII")).expect("it is well-formed");
-        met.extend(compare(&tree.tree_bytes(), &tree.names, &read("open.glsl")));
+        for settings in ["open.glsl", "tight.glsl", "export.glsl"] {
+            met.extend(compare(&tree.tree_bytes(), &tree.names, &read(settings)));
+        }
     }
     let all: BTreeSet<(u8, u8)> = FORMS.iter().map(|form| (form.kind, form.variant)).collect();
     assert_eq!(met, all);

@@ -87,7 +87,8 @@ fn the_operators_are_those_of_the_printer() {
     }
 }
 
-/// The fields of the settings: names and highest values from the code, OPEN from its definition.
+/// The fields of the settings: names and highest values from the code, OPEN from its definition, with a 0 for byte 21,
+/// as 21 bytes mean.
 fn settings() -> Vec<(String, usize, usize)> {
     let (code, spec) = (file("crates/settings/src/lib.rt"), file("crates/settings/specs/Settings.antt"));
     let names = between(&code, "pub struct Settings {", "\n}").split("pub ").skip(1);
@@ -97,9 +98,11 @@ fn settings() -> Vec<(String, usize, usize)> {
     };
     let highest = between(&code, "const LIMITS: [u8;", "];").split_once('[').expect("it is an array").1;
     let highest: Vec<usize> = highest.split(',').map(str::trim).filter(|name| !name.is_empty()).map(constant).collect();
-    let open: Vec<usize> = listed(&spec, "OPEN").iter().map(|byte| byte.parse().expect("a number")).collect();
+    let mut open: Vec<usize> = listed(&spec, "OPEN").iter().map(|byte| byte.parse().expect("a number")).collect();
+    assert_eq!(open.len(), 21);
+    open.push(0);
     let names: Vec<String> = names.map(|field| between(&format!(" {field}"), " ", ":").into()).collect();
-    assert!(names.len() == highest.len() && names.len() == open.len());
+    assert_eq!([names.len(), highest.len()], [open.len(); 2]);
     names.into_iter().zip(highest).zip(open).map(|((name, highest), open)| (name, highest, open)).collect()
 }
 
@@ -115,6 +118,9 @@ fn the_settings_are_those_of_the_printer() {
     }
     let spec = file("crates/settings/specs/Settings.antt");
     assert!(listed(&spec, "TIGHT").iter().all(|byte| *byte == "0") && document.contains("TIGHT is every byte 0."));
+    let export = format!("GLSL_EXPORT[GLSL_EXPORT_LENGTH] = {{{}1}};", "0, ".repeat(21));
+    assert!(file("include/glsl_print.h").contains(&export));
+    assert!(document.contains("EXPORT is TIGHT with byte 21 at 1: 21 bytes of 0, and a 1."));
 }
 
 #[test]

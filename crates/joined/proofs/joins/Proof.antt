@@ -14,8 +14,8 @@ under-sign-requires c κs = search needs
 joins-with-requires : tie.Need-joins-with-requires
 joins-with-requires c κs = search needs
 
-plus-or-minus-requires : tie.Need-plus-or-minus-requires
-plus-or-minus-requires c κs = search needs
+of-binary-requires : tie.Need-of-binary-requires
+of-binary-requires c κs = search needs
 
 joins-with-requires-2 : tie.Need-joins-with-requires-2
 joins-with-requires-2 c κs = search needs
@@ -26,7 +26,7 @@ returns c = simp (c .before .before .before .match .keys1, c .joins-with .ensure
 
 returns-2 : tie.Need-returns-2
 unfolding joinsAt
-returns-2 c = simp (c .before .before .match .keys2, c .joins-with2 .ensures, c .before .plus-or-minus .ensures)
+returns-2 c = simp (c .before .before .match .keys2, c .joins-with2 .ensures, c .before .of-binary .ensures)
 
 returns-3 : tie.Need-returns-3
 unfolding joinsAt
@@ -37,4 +37,4 @@ unfolding joinsAt
 returns-4 c = simp (ne-eqb _ _ (c .match .rest .0 .0 .1), ne-eqb _ _ (c .match .rest .0 .1), ne-eqb _ _ (c .match .rest .1))
 
 pub joins-spec : {M : Type 1} → statement M
-joins-spec = tie.close (tie.spec own-of-requires under-sign-requires joins-with-requires plus-or-minus-requires joins-with-requires-2 returns returns-2 returns-3 returns-4)
+joins-spec = tie.close (tie.spec own-of-requires under-sign-requires joins-with-requires of-binary-requires joins-with-requires-2 returns returns-2 returns-3 returns-4)

@@ -5,8 +5,8 @@ use Rattle.joined.specs.Stack.{ownOf}
 use Rattle.joined.proofs.own_of.Statement.{statement}
 use Rattle.joined.proofs.own_of.Tie as tie
 
-plus-or-minus-requires : tie.Need-plus-or-minus-requires
-plus-or-minus-requires c κs = search needs
+of-unary-requires : tie.Need-of-unary-requires
+of-unary-requires c κs = search needs
 
 returns : tie.Need-returns
 unfolding ownOf
@@ -14,11 +14,11 @@ returns c = simp (c .match .keys1)
 
 returns-2 : tie.Need-returns-2
 unfolding ownOf
-returns-2 c = simp (c .before .match .keys2, c .plus-or-minus .ensures)
+returns-2 c = simp (c .before .match .keys2, c .of-unary .ensures)
 
 returns-3 : tie.Need-returns-3
 unfolding ownOf
 returns-3 c = simp (ne-eqb _ _ (c .match .rest .0 .1), ne-eqb _ _ (c .match .rest .1))
 
 pub own-of-spec : {M : Type 1} → statement M
-own-of-spec = tie.close (tie.spec plus-or-minus-requires returns returns-2 returns-3)
+own-of-spec = tie.close (tie.spec of-unary-requires returns returns-2 returns-3)

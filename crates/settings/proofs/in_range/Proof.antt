@@ -1,21 +1,21 @@
 -- Loop: what is left to test from k on equals the test of all. Assumes nothing.
 use mathlib.Core.Path.{_≡_, refl, sym}
-use Prim.Native.Nat.{_-_}
+use Prim.Native.Nat.{_≤_, _-_}
 use native.Mathlib.Omega.{arith}
 use lib.ListN.{length, drop}
 use Rattle.settings.specs.Settings.{inRange}
-use Rattle.settings.proofs.Range.{range-other-length, range-more, range-stop, range-done}
+use Rattle.settings.proofs.Range.{range-too-long, range-more, range-stop, range-done}
 use Rattle.settings.proofs.in_range.Statement.{statement}
 use Rattle.settings.proofs.in_range.Tie as tie
 
 abbrev Inv-loop : tie.InvT-loop
-Inv-loop bytes limits k₀ k = (length bytes ≡ length limits) × (inRange bytes limits ≡ inRange (drop k bytes) (drop k limits))
+Inv-loop bytes limits k₀ k = (length bytes ≤ length limits) × (inRange bytes limits ≡ inRange (drop k bytes) (drop k limits))
 
 abbrev μ-loop : tie.MeasureT-loop
-μ-loop bytes limits k₀ k = length limits - k
+μ-loop bytes limits k₀ k = length bytes - k
 
 returns : tie.Need-returns Inv-loop μ-loop
-returns c = sym (range-other-length _ _ (λ e. omega arith))
+returns c = sym (range-too-long _ _ (omega arith))
 
 loop-holds : tie.Need-loop-holds Inv-loop μ-loop
 loop-holds c = (omega arith, refl)
@@ -45,7 +45,7 @@ loop-again c =
 returns-3 : tie.Need-returns-3 Inv-loop μ-loop
 returns-3 c =
     let l = c .before .loop in
-    sym (range-done _ _ (l .k) (omega arith) (omega arith) (l .inv .1))
+    sym (range-done _ _ (l .k) (omega arith) (l .inv .1))
 
 pub in-range-spec : {M : Type 1} → statement M
 in-range-spec =

@@ -1,11 +1,14 @@
--- The test of range is readSettings'; in range there are 21 bytes, which `of` asks for. Assumes nothing.
-use mathlib.Core.Path.{sym, _∙_}
+-- The tests of length and range are readSettings'; the former is what `of` asks for. Assumes nothing.
 use borrow.Author.Needs.{needs}
-use Rattle.settings.specs.Settings.{limits, readSettings}
-use Rattle.settings.proofs.Range.{range-length}
+use borrow.Author.Tests.{le-leb, lt-leb}
+use Rattle.settings.specs.Settings.{limits, isRecord, readSettings}
 use Rattle.settings.proofs.Refusal.{reads}
 use Rattle.settings.proofs.Settings.read.Statement.{statement}
 use Rattle.settings.proofs.Settings.read.Tie as tie
+
+too-short : tie.Need-returns
+unfolding isRecord readSettings
+too-short c = reads _ _ (simp (lt-leb _ _ (c .if1 .taken)))
 
 slice-aggregate-in-range : tie.Need-slice-aggregate-in-range
 slice-aggregate-in-range c = search needs
@@ -14,15 +17,15 @@ in-range-requires : tie.Need-in-range-requires
 in-range-requires c κs = search needs
 
 of-requires : tie.Need-of-requires
-of-requires c κs = range-length _ _ (sym (c .before .in-range .ensures) ∙ c .if1 .taken)
+of-requires c κs = c .before .before .before .if1 .left
 
-returns : tie.Need-returns
-unfolding limits readSettings
-returns c = reads _ _ (simp (← c .before .before .in-range .ensures, c .before .if1 .taken, ← c .of .ensures))
+read : tie.Need-returns-2
+unfolding limits isRecord readSettings
+read c = reads _ _ (simp (le-leb _ _ (c .before .before .before .before .if1 .left), ← c .before .before .in-range .ensures, c .before .if2 .taken, ← c .of .ensures))
 
-returns-2 : tie.Need-returns-2
-unfolding limits readSettings
-returns-2 c = reads _ _ (simp (← c .before .in-range .ensures, c .if1 .left))
+out-of-range : tie.Need-returns-3
+unfolding limits isRecord readSettings
+out-of-range c = reads _ _ (simp (le-leb _ _ (c .before .before .before .if1 .left), ← c .before .in-range .ensures, c .if2 .left))
 
 pub read-spec : {M : Type 1} → statement M
-read-spec = tie.close (tie.spec slice-aggregate-in-range in-range-requires of-requires returns returns-2)
+read-spec = tie.close (tie.spec too-short slice-aggregate-in-range in-range-requires of-requires read out-of-range)

@@ -14,7 +14,8 @@ same {x = x} {ys = ys} e f = ap (_∷_ x) f ∙ ap (λ (z : ℕ). z ∷ ys) e
 returns : tie.Need-returns
 unfolding settingsBytes
 returns c =
-    let at18 = c .before in
+    let at19 = c .before in
+    let at18 = at19 .before in
     let at17 = at18 .before in
     let at16 = at17 .before in
     let at15 = at16 .before in
@@ -39,13 +40,14 @@ returns c =
     same (at8 .whitespace-byte2 .ensures) (same (at9 .whitespace-byte3 .ensures) (same (at10 .whitespace-byte4 .ensures) (
     same (at11 .flag-byte7 .ensures) (same (at12 .whitespace-byte5 .ensures) (same (at13 .whitespace-byte6 .ensures) (
     same (at14 .flag-byte8 .ensures) (same (at15 .flag-byte9 .ensures) (same (at16 .flag-byte10 .ensures) (
-    same (at17 .flag-byte11 .ensures) (same (at18 .flag-byte12 .ensures) (same (c .flag-byte13 .ensures) (
-    refl)))))))))))))))))))))
+    same (at17 .flag-byte11 .ensures) (same (at18 .flag-byte12 .ensures) (same (at19 .flag-byte13 .ensures) (
+    same (c .flag-byte14 .ensures) refl)))))))))))))))))))))
 
 pub to-bytes-spec : {M : Type 1} → statement M
 to-bytes-spec =
     tie.close
     (tie.spec
+    (λ c κs. search needs)
     (λ c κs. search needs)
     (λ c κs. search needs)
     (λ c κs. search needs)

@@ -329,7 +329,7 @@ pub +array+assign+bare+base+binary+call+callee+choice+comma+dim+dims+dot+expr+ex
     (dot-at t)
     dot.Post
     (Dot.expr-requires t)
-    (Dot.write-char-requires t)
+    (Dot.write-dot-requires t)
     (Dot.write-name-requires t)
     (Dot.same-length t)
     (Dot.returns t))
@@ -555,8 +555,8 @@ pub +array+assign+bare+base+binary+call+callee+choice+comma+dim+dims+dot+expr+ex
     λ t. unary-lts.spec (Unary.calls t)
     (unary-at t)
     unary.Post
-    (Unary.show-unary-op-requires t)
     (Unary.unary-most-requires t)
+    (Unary.show-unary-op-requires t)
     (Unary.expr-requires t)
     (Unary.same-length t)
     (Unary.returns t)

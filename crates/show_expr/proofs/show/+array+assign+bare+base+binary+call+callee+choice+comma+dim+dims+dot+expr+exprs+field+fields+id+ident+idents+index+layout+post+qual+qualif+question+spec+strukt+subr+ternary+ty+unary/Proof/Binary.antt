@@ -27,7 +27,7 @@ pub sub-expr : (t : ℕ) → binary-lts.Need-sub-expr (calls t) (binary-at t) bi
 sub-expr t c = search needs
 
 pub expr-requires-2 : (t : ℕ) → binary-lts.Need-expr-requires-2 (calls t) (binary-at t) binary.Post
-expr-requires-2 t c κs = (omega (arith, c .before .before .before .before .before .before .before .before .before .before .before .before .before .pre .0, c .before .before .before .before .before .before .before .expr .ensures .next, wrote (c .before .before .before .show-binary-op .ensures) .next), c .before .before .before .before .before .before .before .before .before .before .before .before .before .pre .1)
+expr-requires-2 t c κs = (omega (arith, c .before .before .before .before .before .before .before .before .before .before .before .before .before .pre .0, c .before .before .before .before .before .before .before .expr .ensures .next, wrote (c .before .before .before .show-binary-op .ensures (c .before .before .before .before .before .before .before .before .before .before .before .before .before .args .names .now)) .next), c .before .before .before .before .before .before .before .before .before .before .before .before .before .pre .1)
 
 pub returns : (t : ℕ) → binary-lts.Need-returns (calls t) (binary-at t) binary.Post
 returns t c = Printers.binary-parts (c .before .before .before .before .before .before .before .before .before .before .before .before .before .before .before .before .args .records .now) (c .before .before .before .before .before .before .before .before .before .before .before .before .before .before .before .before .args .names .now) (c .before .before .before .before .before .before .before .before .before .before .before .before .before .before .before .before .args .v) (c .before .before .before .before .before .before .before .before .before .before .before .before .of-binary-op .ensures) (c .before .before .before .before .before .before .before .before .before .before .expr .ensures) (c .before .before .before .before .before .before .show-binary-op .ensures) (c .before .before .expr2 .ensures)

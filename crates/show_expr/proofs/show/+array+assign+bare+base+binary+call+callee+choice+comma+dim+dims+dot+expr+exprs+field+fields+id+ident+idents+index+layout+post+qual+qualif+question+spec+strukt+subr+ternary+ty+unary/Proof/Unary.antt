@@ -12,19 +12,19 @@ use Rattle.show_expr.proofs.show.+array+assign+bare+base+binary+call+ca
 use Rattle.show_expr.proofs.show.+array+assign+bare+base+binary+call+callee+choice+comma+dim+dims+dot+expr+exprs+field+fields+id+ident+idents+index+layout+post+qual+qualif+question+spec+strukt+subr+ternary+ty+unary.Proof.Measure.{unary-at, expr-below}
 
 abbrev pub calls : ℕ → unary-lts.Claims
-calls t = (show-unary-op-reads.Asked, show-unary-op-reads.Learnt, unary-most-reads.Asked, unary-most-reads.Learnt, expr-below t, expr.Post)
-
-pub show-unary-op-requires : (t : ℕ) → unary-lts.Need-show-unary-op-requires (calls t) (unary-at t) unary.Post
-show-unary-op-requires t c κs = search needs
+calls t = (unary-most-reads.Asked, unary-most-reads.Learnt, show-unary-op-reads.Asked, show-unary-op-reads.Learnt, expr-below t, expr.Post)
 
 pub unary-most-requires : (t : ℕ) → unary-lts.Need-unary-most-requires (calls t) (unary-at t) unary.Post
 unary-most-requires t c κs = search needs
 
+pub show-unary-op-requires : (t : ℕ) → unary-lts.Need-show-unary-op-requires (calls t) (unary-at t) unary.Post
+show-unary-op-requires t c κs = search needs
+
 pub expr-requires : (t : ℕ) → unary-lts.Need-expr-requires (calls t) (unary-at t) unary.Post
-expr-requires t c κs = (omega (arith, c .before .before .before .before .before .before .before .before .before .pre .0, wrote (c .before .before .before .before .show-unary-op .ensures (c .before .before .before .before .before .before .before .before .before .args .s)) .next), c .before .before .before .before .before .before .before .before .before .pre .1)
+expr-requires t c κs = (omega (arith, c .before .before .before .before .before .before .before .before .before .pre .0, wrote (c .before .before .before .show-unary-op .ensures (c .before .before .before .before .before .before .before .before .before .args .names .now)) .next), c .before .before .before .before .before .before .before .before .before .pre .1)
 
 pub returns : (t : ℕ) → unary-lts.Need-returns (calls t) (unary-at t) unary.Post
-returns t c = Printers.unary-parts (c .before .before .before .before .before .before .before .before .before .before .before .before .args .records .now) (c .before .before .before .before .before .before .before .before .before .before .before .before .args .names .now) (c .before .before .before .before .before .before .before .before .before .before .before .before .args .v) (c .before .before .before .before .before .before .before .show-unary-op .ensures (c .before .before .before .before .before .before .before .before .before .before .before .before .args .s)) (c .before .before .before .unary-most .ensures) (c .before .before .expr .ensures)
+returns t c = Printers.unary-parts (c .before .before .before .before .before .before .before .before .before .before .before .before .args .records .now) (c .before .before .before .before .before .before .before .before .before .before .before .before .args .names .now) (c .before .before .before .before .before .before .before .before .before .before .before .before .args .v) (c .before .before .before .before .before .before .show-unary-op .ensures) (c .before .before .before .before .before .before .before .before .unary-most .ensures) (c .before .before .expr .ensures)
 
 pub same-length : (t : ℕ) → unary-lts.Need-same-length (calls t) (unary-at t) unary.Post
 same-length t c = shown-length (returns t c)
