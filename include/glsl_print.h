@@ -18,10 +18,13 @@
  *     shapes that are misread under any settings, among them a negative IntConst: -1 is read as minus over 1. With byte 21 at 0 it
  *     also leaves out minus over --a, which is then printed as ---a, plus over ++a, and a field of an IntConst, 1.lf.
  *   - With neither (GLSL_TIGHT) signs can meet: n - --k is printed as n---k, which is read as n-- - k. glsl_joined tells beforehand
- *     whether signs meet somewhere, or a dot and a whole number. That such texts are read as they were meant otherwise is not proved.
- *   - Of units nothing is promised but their text, in which every expression has its spaces. No braces are added: an if without an
- *     else that is the first statement of an if with one takes that else when it is read, under any settings (docs/DIFFERENCES.md,
- *     "Dangling else").
+ *     whether signs meet somewhere, or a dot and a whole number. Where it answers 0 the text of a sound expression is read as that
+ *     expression and as no other under any settings, GLSL_TIGHT among them. That is proved as well.
+ *   - Settings are only layout: but for byte 15, which leaves out the braces of single statements, the texts of one tree under two of
+ *     them differ in spaces, tabs and newlines alone (docs/LAYOUT.md). Proved.
+ *   - Of units it is promised what their text is and, with byte 21 at 1, that longest match splits it into its tokens. No braces are
+ *     added: an if without an else that is the first statement of an if with one takes that else when it is read, under any settings
+ *     (docs/DIFFERENCES.md, "Dangling else").
  *
  * Owed by the caller:
  *   - Each pointer is valid for the length behind it, and is not null, even if that length is 0.
@@ -55,8 +58,10 @@ int64_t glsl_print_expr(const uint8_t *settings, size_t settings_length,
  *   - a unary + or - has an operand without brackets whose text begins with the same sign: `---a` for minus over --a, `--1` for minus
  *     over the IntConst -1;
  *   - a Dot stands directly over an IntConst: `1.lf`.
- * The two signs, or number and dot, are then read as one token. The needed spaces (settings byte 21, as in GLSL_EXPORT) keep all three
- * sorts apart, and where they are on there is no need to ask; spaces around operators (byte 12) by themselves keep the first sort apart.
+ * The two signs, or number and dot, are then read as one token, and nothing else in the text can be: longest match, by GLSL's own words,
+ * splits a text under GLSL_TIGHT into the expression's tokens exactly where the answer is 0 (docs/LAYOUT.md).
+ * The needed spaces (settings byte 21, as in GLSL_EXPORT) keep all three sorts apart, and where they are on there is no need to ask;
+ * spaces around operators (byte 12) by themselves keep the first sort apart.
  * The answer is 1 or 0, or a refusal with a number of 2 to 12. */
 int64_t glsl_joined(const uint8_t *records, size_t records_length, const uint8_t *names, size_t names_length);
 

@@ -1,5 +1,5 @@
 #!/usr/bin/env python3
-"""believed.py: what a reader must believe. Follows names from the contracts of the public calls and from promise 3, definition by definition, and counts the
+"""believed.py: what a reader must believe. Follows names from the contracts of the public calls and from the theorems about them, definition by definition, and counts the
 lines of each that is reached: blank lines, comments and imports left out. Run it from the repository's root.
 
     tools/believed.py            the lines of each file, and in all
@@ -15,8 +15,14 @@ CALLS = {
     "crates/print/src/main.rt": ["answer"],
     "crates/settings/src/lib.rt": ["read", "tight", "open", "export", "to_bytes"],
 }
-# Promise 3, and what it was before #106, about the words of GLSL, those of the preprocessor, and those of any language between (crates/reading/proofs/Demand3.antt).
-PROMISE_3 = [("reading", "Demand3", "Demand3"), ("reading", "Demand3", "Demand3-of-00"), ("lexis", "Glsl", "glsl-word"), ("lexis", "Preprocessing", "Between")]
+# Promise 3, and what it was before #106, about the words of GLSL, those of the preprocessor, and those of any language between (crates/reading/proofs/Demand3.antt); that settings are only layout, that joined is
+# exact by the words of GLSL, and that promise 3 holds too where it answers no (crates/reading/proofs/Spaces.antt).
+THEOREMS = [
+    ("reading", "Demand3", "Demand3"),
+    ("reading", "Demand3", "Demand3-of-00"),
+    ("lexis", "Preprocessing", "Between"),
+    ("reading", "Spaces", "Closed"),
+]
 
 IMPORT = re.compile(r"^\s*(?:ghost |unfoldable |pub )*use Rattle·(\w+)(?:·specs)?\.specs\.([\w.-]+?)(?:\.\{(.*)\})?(?: as (\S+?))?;?$")
 WORDS = re.compile(r"[^\s(){}\[\],;]+")
@@ -144,7 +150,7 @@ class Contracts:
 
 
 def believed():
-    """All files that are looked at, and the definitions that the calls and promise 3 reach."""
+    """All files that are looked at, and the definitions that the calls and the theorems reach."""
     modules = {}
 
     def load(crate, name):
@@ -152,7 +158,7 @@ def believed():
             modules[crate, name] = Module(crate, name)
         return modules[crate, name]
 
-    waiting, reached = list(PROMISE_3), set()
+    waiting, reached = list(THEOREMS), set()
     for path, wanted in CALLS.items():
         texts, imports, aliases = contracts(path, wanted)
         for text in texts:

@@ -14,6 +14,13 @@ use glsl_lang::transpiler::glsl::FormattingSettings;
 /// Examples of a fault that are kept.
 const SHOWN: usize = 5;
 
+/// Keeps an example of a fault, unless there are enough.
+pub(crate) fn keep(examples: &mut Vec<String>, example: impl Into<String>) {
+    if examples.len() < SHOWN {
+        examples.push(example.into());
+    }
+}
+
 /// What was found on expressions of one size.
 #[derive(Clone, Debug, Default, PartialEq, Eq)]
 pub struct Found {
@@ -39,8 +46,9 @@ impl Found {
         self.judge(&tokens, &print::expr(expr, tight), tokens.are_joined());
     }
 
-    /// Counts an expression of these tokens, of which this TIGHT text and this answer were given.
-    fn judge(&mut self, tokens: &Tokens, text: &str, joined: bool) {
+    /// Counts a tree of these tokens, of which this answer was given, and this text, in TIGHT or otherwise without operator
+    /// spaces and needed ones.
+    pub(crate) fn judge(&mut self, tokens: &Tokens, text: &str, joined: bool) {
         self.answers[usize::from(joined)] += 1;
         let fault = if lay(tokens, text).is_none() {
             self.unlike += 1;
@@ -55,9 +63,7 @@ impl Found {
         } else {
             return;
         };
-        if self.examples.len() < SHOWN {
-            self.examples.push(format!("{text}: {fault}"));
-        }
+        keep(&mut self.examples, format!("{text}: {fault}"));
     }
 }
 
@@ -72,6 +78,7 @@ pub fn of_size(records: usize) -> Found {
 mod tests {
     use super::*;
     use crate::answer::Root;
+    use crate::cases::cover::has_struct;
     use crate::{grow, read};
 
     #[test]
@@ -86,16 +93,18 @@ mod tests {
         assert_eq!(of_size(0), Found::default());
     }
 
-    /// The same of large random trees. They have structs too, of which the request says nothing.
+    /// The same of large random trees, without structs and with some, which the request leaves out.
     #[test]
     fn grown_expressions_are_exact() {
-        let (tight, mut found) = (settings::tight(), Found::default());
+        let (tight, mut found) = (settings::tight(), [Found::default(), Found::default()]);
         for case in 0..10_000 {
             let question = grow::rooted(Root::Expr, 1, case);
-            found.count(&read::expr(&question.records, &question.names).expect("a good tree").tree, &tight);
+            let tree = read::expr(&question.records, &question.names).expect("a good tree").tree;
+            found[usize::from(has_struct(&question))].count(&tree, &tight);
         }
-        assert!(found.is_exact(), "{found:?}");
-        assert!(found.answers.iter().all(|&count| count > 500), "{found:?}");
+        for (found, least) in found.iter().zip([500, 100]) {
+            assert!(found.is_exact() && found.answers.iter().all(|&count| count > least), "{found:?}");
+        }
     }
 
     /// A rule that looks at binary operators alone, as document 01's did, would be found out.

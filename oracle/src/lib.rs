@@ -4,14 +4,15 @@
 //! puts needed spaces into its text, by the tree's [`tokens`]. [`joined`] is the reference for the joined question,
 //! [`mod@name`] for a record's name. [`grow`] makes random trees, [`mod@line`] is the format on disk.
 //! [`exact`] holds the joined question, and [`needed`] the needed spaces, against tokens and [`mod@split`], on all small
-//! expressions. All of it is written from the words of documents 01 and 02, not from our own definitions, so that it can
-//! contradict them.
+//! expressions; [`layout`] does so on random trees under random settings, and holds their texts against each other. All of it
+//! is written from the words of documents 01 and 02, not from our own definitions, so that it can contradict them.
 
 pub mod answer;
 pub mod cases;
 pub mod exact;
 pub mod grow;
 pub mod joined;
+pub mod layout;
 pub mod line;
 pub mod name;
 pub mod needed;

@@ -1,7 +1,7 @@
 //! The program `oracle`: answers, checks and makes lines of questions (see `oracle::line` for their format), and tries whether
-//! the joined question is exact, and whether needed spaces are.
+//! the joined question is exact, whether needed spaces are, and whether settings are only layout.
 
-use oracle::{answer, exact, grow, line, needed, sample};
+use oracle::{answer, exact, grow, layout, line, needed, sample};
 use std::fmt::Display;
 use std::fs::File;
 use std::io::{self, BufRead, BufReader, BufWriter, Write};
@@ -15,6 +15,8 @@ usage: oracle answer               reads lines `Unit|Expr SETTINGS RECORDS NAMES
                                    match does not give its tokens, on all expressions of up to RECORDS records
        oracle needed RECORDS       tries on the same expressions whether texts with needed spaces split into their tokens,
                                    and into others without any one of these spaces
+       oracle layout SEED CASES    tries on CASES grown units and as many expressions, and on those in which signs meet,
+                                   whether settings change blanks alone, and which texts split into their tokens
        oracle sample Unit|Expr|Name SEED
        oracle sample State
                                    writes the sample that crates/replay replays (see `oracle::sample` for its format)
@@ -33,6 +35,7 @@ fn main() -> ExitCode {
         ["vectors", seed, count] => vectors(seed, count),
         ["exact", records] => exact_up_to(records),
         ["needed", records] => needed_up_to(records),
+        ["layout", seed, cases] => layout_of(seed, cases),
         ["sample", "State"] => write_bytes(&sample::states::file()),
         ["sample", asked, seed] => write_sample(asked, seed),
         _ => Err(USAGE.to_owned()),
@@ -132,6 +135,27 @@ fn needed_up_to(records: &str) -> Verdict {
         }
     }
     Ok(is_good)
+}
+
+/// `layout`: a line for each number and a column for each sort of tree, the first texts that speak against the claims, and the
+/// numbers that are not what they must be.
+fn layout_of(seed: &str, cases: &str) -> Verdict {
+    let tried = layout::tried(number(seed)?, number(cases)?);
+    let line =
+        |name, fields: [String; 4]| println!("{name:<24}{}", fields.map(|field| format!("{field:>14}")).concat());
+    line("", tried.each_ref().map(|(sort, _)| (*sort).to_owned()));
+    for number in layout::NUMBERS {
+        line(number.name, tried.each_ref().map(|(_, found)| (number.of)(found).to_string()));
+    }
+    let found = tried.iter().map(|(_, found)| found);
+    for example in found.clone().flat_map(layout::Found::examples) {
+        println!("    {example}");
+    }
+    let faults = layout::faults(found);
+    for (name, number) in &faults {
+        println!("{name}: must{} be 0", if *number == 0 { " not" } else { "" });
+    }
+    Ok(faults.is_empty())
 }
 
 /// `sample`: the file of what is asked and a seed.

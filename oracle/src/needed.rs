@@ -3,13 +3,12 @@
 //! the alphabet of [`small`], in TIGHT and in OPEN.
 
 use crate::cases::small;
+use crate::exact::keep;
 use crate::settings::{self, Settings};
 use crate::spaced::{self, Spaced};
+use crate::split::without_blanks;
 use crate::tokens::{self, Tokens};
 use glsl_lang::ast;
-
-/// Examples of a fault that are kept.
-const SHOWN: usize = 5;
 
 /// What was found on texts under the same settings.
 #[derive(Clone, Debug, Default, PartialEq, Eq)]
@@ -42,32 +41,25 @@ impl Found {
             Some(spaced) => self.judge(tokens, &spaced),
             None => {
                 self.unlike += 1;
-                self.keep(&tokens.text);
+                keep(&mut self.examples, &tokens.text);
             }
         }
     }
 
-    /// Keeps an example.
-    fn keep(&mut self, text: &str) {
-        if self.examples.len() < SHOWN {
-            self.examples.push(text.to_owned());
-        }
-    }
-
     /// Counts a text of a tree with these tokens.
-    fn judge(&mut self, tokens: &Tokens, Spaced { text, needed }: &Spaced) {
+    pub(crate) fn judge(&mut self, tokens: &Tokens, Spaced { text, needed }: &Spaced) {
         self.texts += 1;
         self.spaced += u64::from(!needed.is_empty());
         self.spaces += needed.len() as u64;
         let is_misread = !tokens.are_split_from(text);
-        let is_unlike = !text.split_ascii_whitespace().flat_map(str::bytes).eq(tokens.text.bytes());
+        let is_unlike = !without_blanks(text).eq(tokens.text.bytes());
         let dropped = needed.iter().map(|&at| [&text[..at], &text[at + 1..]].concat());
         let needless = dropped.filter(|text| tokens.are_split_from(text)).count() as u64;
         self.misread += u64::from(is_misread);
         self.unlike += u64::from(is_unlike);
         self.needless += needless;
         if is_misread || is_unlike || needless > 0 {
-            self.keep(text);
+            keep(&mut self.examples, text);
         }
     }
 }
@@ -75,7 +67,7 @@ impl Found {
 /// Tries all expressions of exactly so many records: in TIGHT, and in OPEN, which has operator spaces.
 pub fn of_size(records: usize) -> [Found; 2] {
     let mut found = [Found::default(), Found::default()];
-    let settings = [settings::TIGHT, settings::OPEN].map(with_needed);
+    let settings = [settings::TIGHT, settings::OPEN].map(|record| settings::with(&record, true));
     small::trees(records, |expr| {
         let tokens = tokens::expr(expr);
         for (found, settings) in found.iter_mut().zip(&settings) {
@@ -85,15 +77,10 @@ pub fn of_size(records: usize) -> [Found; 2] {
     found
 }
 
-/// Settings with byte 21 at 1.
-fn with_needed(record: [u8; settings::SIZE]) -> Settings {
-    settings::read(&settings::longer(record, 1)).expect("a good record has a good longer one")
-}
-
 #[cfg(test)]
 mod tests {
     use super::*;
-    use crate::answer::{Question, Root};
+    use crate::answer::Root;
     use crate::{grow, read};
 
     #[test]
@@ -114,21 +101,13 @@ mod tests {
         for root in [Root::Expr, Root::Unit] {
             let mut found = Found::default();
             for case in 0..10_000 {
-                let Question { settings, records, names, .. } = grow::rooted(root, 1, case);
-                let settings =
-                    Settings { spaces_where_needed: true, ..settings::read(&settings).expect("good settings") };
-                let (tokens, spaced) = match root {
-                    Root::Expr => {
-                        let tree = read::expr(&records, &names).expect("a good tree").tree;
-                        (tokens::expr(&tree), spaced::expr(&tree, &settings))
-                    }
-                    Root::Unit => {
-                        let tree = read::unit(&records, &names).expect("a good tree").tree;
-                        let collapse = settings.module.collapse_single_item_compound_statements;
-                        (tokens::unit(&tree, collapse), spaced::unit(&tree, &settings))
-                    }
-                };
-                found.judge(&tokens, &spaced.expect("the tokens are the text's"));
+                let question = grow::rooted(root, 1, case);
+                let settings = settings::read(&question.settings).expect("good settings");
+                let settings = Settings { spaces_where_needed: true, ..settings };
+                let tree = read::tree(&question).expect("a good tree");
+                let tokens = tokens::tree(&tree, settings.module.collapse_single_item_compound_statements);
+                let spaced = spaced::tree(&tree, &settings).expect("the tokens are the text's");
+                found.judge(&tokens, &spaced);
             }
             assert!(found.is_good(), "{found:?}");
             assert!(found.spaced > 200, "{}", found.spaced);

@@ -1,10 +1,19 @@
 //! The judge itself: the texts that the Rust module (000) writes.
 
+use crate::read::Tree;
 use glsl_lang::ast;
 use glsl_lang::transpiler::glsl::{show_expr, show_translation_unit, FormattingSettings, FormattingState};
 
 /// Why the printers below cannot fail: 000 hands on the writer's errors and has none of its own.
 const NEVER_FAILS: &str = "a String takes every text";
+
+/// The text of either, from a fresh state.
+pub fn tree(tree: &Tree, settings: &FormattingSettings) -> String {
+    match tree {
+        Tree::Unit(tree) => unit(tree, settings),
+        Tree::Expr(tree) => expr(tree, settings),
+    }
+}
 
 /// The text of a unit, from a fresh state.
 pub fn unit(unit: &ast::TranslationUnit, settings: &FormattingSettings) -> String {

@@ -1,6 +1,7 @@
 //! The settings record: 21 bytes for the fields of the module's `FormattingSettings`, in their order (01), and perhaps one
 //! more for a setting of our own (02, #106).
 
+use crate::random::Random;
 use crate::refusal::{Reason, Refusal};
 use glsl_lang::transpiler::glsl::{FormattingSettings, IndentStyle, Whitespace};
 
@@ -49,10 +50,21 @@ pub fn values() -> impl Iterator<Item = (usize, u8)> + Clone {
 pub fn read(bytes: &[u8]) -> Result<Settings, Refusal> {
     let is_in_range = bytes.iter().zip(&GREATEST).all(|(byte, greatest)| byte <= greatest);
     match bytes.split_first_chunk() {
-        Some((module, rest @ ([] | [_]))) if is_in_range => {
-            Ok(Settings { module: from_valid(module), spaces_where_needed: rest == [1] })
-        }
+        Some((module, rest @ ([] | [_]))) if is_in_range => Ok(with(module, rest == [1])),
         _ => Err(Refusal::whole(Reason::Settings)),
+    }
+}
+
+/// The settings of a record whose bytes are in range, with a value for our own setting.
+pub(crate) fn with(record: &[u8; SIZE], spaces_where_needed: bool) -> Settings {
+    Settings { module: from_valid(record), spaces_where_needed }
+}
+
+/// The 21 bytes that every settings record has: TIGHT, OPEN, or anything in range.
+pub(crate) fn any(random: &mut Random) -> [u8; SIZE] {
+    match random.weighted(&[(15, Some(TIGHT)), (15, Some(OPEN)), (70, None)]).flatten() {
+        Some(constant) => constant,
+        None => std::array::from_fn(|at| random.byte(GREATEST[at])),
     }
 }
 

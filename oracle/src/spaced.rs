@@ -3,6 +3,7 @@
 //!
 //! The tokens are laid over the text, so that both have to say the same of every tree that is printed here.
 
+use crate::read::Tree;
 use crate::settings::Settings;
 use crate::tokens::{self, Tokens};
 use crate::{print, split};
@@ -15,6 +16,14 @@ pub struct Spaced {
     pub text: String,
     /// The places of the spaces that the Rust module has not.
     pub needed: Vec<usize>,
+}
+
+/// The text of either; nothing where its tokens are not those of the Rust module's text.
+pub fn tree(tree: &Tree, settings: &Settings) -> Option<Spaced> {
+    match tree {
+        Tree::Unit(tree) => unit(tree, settings),
+        Tree::Expr(tree) => expr(tree, settings),
+    }
 }
 
 /// The text of a unit; nothing where its tokens are not those of the Rust module's text.
@@ -86,7 +95,7 @@ mod tests {
     fn nothing_is_put_where_it_is_not_asked_for() {
         let tree = read::expr(&all(&[&named(13, 0, 0), &crate::tree::int(1)]), b"x").expect("a good tree").tree;
         for (byte, text) in [(0, "1.x"), (1, "1 .x")] {
-            let settings = settings::read(&settings::longer(settings::TIGHT, byte)).expect("good settings");
+            let settings = settings::with(&settings::TIGHT, byte == 1);
             assert_eq!(expr(&tree, &settings).map(|spaced| spaced.text).as_deref(), Some(text));
         }
     }

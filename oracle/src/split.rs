@@ -30,6 +30,11 @@ pub fn blanks(text: &str) -> (&str, &str) {
     text.split_at(text.len() - behind.len())
 }
 
+/// The bytes of a text once spaces, tabs and newlines are removed (02, #107): no other blank is written.
+pub fn without_blanks(text: &str) -> impl Iterator<Item = u8> + '_ {
+    text.bytes().filter(|byte| !b" \t\n".contains(byte))
+}
+
 /// The length of the longest word that stands at the front.
 fn longest(text: &[u8]) -> Option<usize> {
     let lengths = [identifier(text), whole_number(text), floating(text), symbol(text)];
@@ -197,5 +202,6 @@ mod tests {
             splits(text, words);
         }
         assert_eq!(blanks(" \na b"), (" \n", "a b"));
+        assert!(without_blanks("\ta- \n-b").eq(*b"a--b"));
     }
 }

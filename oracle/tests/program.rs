@@ -115,6 +115,31 @@ fn needed_has_two_lines_for_each_size() {
 }
 
 #[test]
+fn layout_has_a_line_for_each_number() {
+    let output = run(&["layout", "1", "200"], "");
+    assert_eq!(output.status.code(), Some(0));
+    let lines: Vec<&str> = text(&output.stdout).lines().collect();
+    let words: Vec<Vec<&str>> = lines.iter().map(|line| line.split_whitespace().collect()).collect();
+    assert_eq!(words[0], ["units", "with", "signs", "expressions", "with", "signs"]);
+    assert_eq!([words[1][1], words[1][3]], ["200"; 2]);
+    // The numbers that must be 0.
+    let zeros =
+        lines.iter().filter(|line| line.ends_with(&format!("{:>14}", 0).repeat(4))).map(|line| line[..24].trim());
+    assert!(
+        zeros.eq(["unlike", "texts of other tokens", "wrong", "misread", "needless", "misread apart", "mistaken"]),
+        "{lines:?}"
+    );
+    assert_eq!(words.len(), 20);
+}
+
+#[test]
+fn layout_of_nothing_is_a_fault() {
+    let output = run(&["layout", "1", "0"], "");
+    assert_eq!(output.status.code(), Some(1));
+    assert!(text(&output.stdout).ends_with("\nall texts, lacking: must not be 0\n"));
+}
+
+#[test]
 fn faults_end_with_status_2_and_a_message() {
     let missing = run(&["check", "no such file"], "");
     let cut = run(&["answer"], "Expr 00\n");

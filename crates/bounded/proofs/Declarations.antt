@@ -7,10 +7,11 @@ use native.Mathlib.Omega.{arith}
 use lib.Dec.{eqb}
 use Rattle.records.specs.declared.Record.{Record}
 use Rattle.records.specs.Record.{textOf, bit0, bit1, bit2}
-use Rattle.text.specs.Tree.{ArrayedIdentifier, TypeQualifierSpec, FunctionParameterDeclaration, FunctionPrototype, Initializer, Initializers, SingleDeclaration, SingleDeclarationNoType, InitDeclaratorList, Block, Declaration}
+use Rattle.text.specs.Tree.{ArrayedIdentifier, FunctionParameterDeclaration, FunctionPrototype, Initializer, Initializers, SingleDeclaration, SingleDeclarationNoType, InitDeclaratorList, Block, Declaration}
 use Rattle.text.specs.Text.{show-function-parameter-declaration, show-parameters, show-function-prototype, show-initializer, show-initializers, show-initialized, show-single-declaration, show-single-declaration-no-type, show-tail, show-init-declarator-list, show-block, show-declaration, show-arrayed-identifier, optional}
 use Rattle.text.specs.Reading.{prototypeOf, parameterOf, declaratorsOf, singleOf, declaratorOf, initializerOf, blockOf, declarationOf}
-use Rattle.formed.specs.Formed.{Each, Formed-parameter, Formed-prototype, Formed-initializer, Formed-some-initializers, Formed-initializers, Formed-single, Formed-declarator, Formed-declarators, Formed-block, Formed-spec, Formed-precision, Formed-declaration}
+use Rattle.formed.specs.Formed.{Each, Formed-parameter, Formed-prototype, Formed-initializer, Formed-some-initializers, Formed-initializers, Formed-single, Formed-declarator, Formed-declarators, Formed-block, Formed-declaration}
+use Rattle.formed.proofs.Precision.{precision-formed}
 use Rattle.bounded.proofs.Weight.{weighs}
 use Rattle.bounded.proofs.Texts.{name-short}
 use Rattle.bounded.proofs.Fits.{between, own-line, sums}
@@ -24,18 +25,6 @@ initializers-formed : (is : Initializers) → Formed-some-initializers is → Fo
 unfolding Formed-initializers
 initializers-formed Initializers.no-initializers h = absurd h
 initializers-formed (Initializers.initializers i is) h = h
-
--- the spec of a precision declaration is a spec
-precision-formed : (q : TypeQualifierSpec) → Formed-precision q → Formed-spec q
-unfolding Formed-precision Formed-spec
-precision-formed TypeQualifierSpec.no-spec h = absurd h
-precision-formed (TypeQualifierSpec.Storage q) h = absurd h
-precision-formed (TypeQualifierSpec.Subroutine ts) h = absurd h
-precision-formed (TypeQualifierSpec.Layout is) h = absurd h
-precision-formed (TypeQualifierSpec.Precision p) h = tt
-precision-formed (TypeQualifierSpec.Interpolation i) h = absurd h
-precision-formed TypeQualifierSpec.Invariant h = absurd h
-precision-formed TypeQualifierSpec.Precise h = absurd h
 
 module _ {collapse : Bool} where
   -- lists

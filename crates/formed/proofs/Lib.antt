@@ -12,3 +12,5 @@ pub mod Statements
 pub mod Classes
 pub mod Formed
 pub mod Signs
+pub mod Doubled
+pub mod Precision

@@ -1,5 +1,5 @@
 -- The contracts of the public calls, as the source has them: each asks nothing of its caller, and what it promises is the proposition that the laws about it speak of: of its one outcome
--- (proofs/Unique) and demand 3 (crate reading); document 01's rows (proofs/Rows) are of the outcome and the text in it. By computation, so that a contract cannot be weakened alone. Assumes nothing.
+-- (proofs/Unique), demand 3 and 02's #107 (crate reading); document 01's rows (proofs/Rows) are of the outcome and the text in it. By computation, so that a contract cannot be weakened alone. Assumes nothing.
 use mathlib.Core.Path.{_≡_, refl}
 use lib.IntN.{ℤ}
 use base.Logic as Logic

@@ -63,7 +63,7 @@ module _ (r : SettingsRead) (c : Checked) (t room : List ℕ) where
   unfolding outcome
   check-refused s x p e f = ap (λ (y : SettingsRead). outcome y c t room) e ∙ ap (λ (y : Checked). outcome (Settings.Read s) y t room) f
 
-  accepted : (s : Settings) (m : ℕ) → r ≡ Settings.Read s → c ≡ Check.Next m → outcome r c t room ≡ fitted t room
+  pub accepted : (s : Settings) (m : ℕ) → r ≡ Settings.Read s → c ≡ Check.Next m → outcome r c t room ≡ fitted t room
   unfolding outcome
   accepted s m e f = ap (λ (y : SettingsRead). outcome y c t room) e ∙ ap (λ (y : Checked). outcome (Settings.Read s) y t room) f
 

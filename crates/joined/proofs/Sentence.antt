@@ -1,15 +1,13 @@
 -- The answer to the joined question is document 02's sentence (specs/Sentence), for every accepted expression. Assumes nothing.
 use mathlib.Core.Path.{_≡_, refl, sym, _∙_, ap}
-use mathlib.Core.Bool.{Bool, true, false, _&&_, _||_, cond, or-false, and-false}
-use mathlib.Core.List.{List, [], _∷_, _++_}
+use mathlib.Core.Bool.{Bool, true, false, _||_}
+use mathlib.Core.List.{List}
 use Prim.Native.Nat.{ℕ, zero, suc, _+_, _<_}
 use native.Mathlib.Omega.{arith}
 use native.Mathlib.Nat.{zero-add}
-use lib.Dec.{eqb}
 use lib.ListN.{getD}
-use borrow.Author.Tests.{eqb-false, ne-eqb}
 use Rattle.words.specs.Bytes.{bytes}
-use Rattle.words.specs.Form.{same, oneOf}
+use Rattle.words.specs.Form.{same}
 use Rattle.words.specs.Symbol.{Symbol, symbolText}
 use Rattle.settings.specs.Settings.{settingsOf, TIGHT}
 use Rattle.settings.specs.State.{fresh}
@@ -20,59 +18,16 @@ use Rattle.accept.specs.declared.Checked.the-variants.{Next}
 use Rattle.accept.specs.Check.{node, check}
 use Rattle.accepted.proofs.Each.{each-record}
 use Rattle.text.specs.Tree.{Expr}
-use Rattle.text.specs.Operator.{unary-symbol, binary-symbol, bare-operand, bare-right, reads-as-one}
+use Rattle.text.specs.Operator.{unary-symbol, binary-symbol, bare-operand, bare-right}
 use Rattle.text.specs.Joins.{sign, joins, joins-right}
 use Rattle.text.specs.Reading.{Item, from, expr, unaryOp, binaryOp}
 use Rattle.text.specs.Joined.{joins-here, somewhere, joinedAnswer}
 use Rattle.formed.specs.Formed.{Formed-expr}
 use Rattle.formed.proofs.Kind.{rec}
-use Rattle.formed.proofs.Signs.{plus, minus, signByte, expr-starts}
+use Rattle.formed.proofs.Signs.{expr-starts}
+use Rattle.formed.proofs.Doubled.{spelled, reads-spelled, neither, as-sign}
 use Rattle.joined.specs.Sentence.{begins, sameSign, inWords}
 use Rattle.joined.proofs.Operands.{Right, of-record}
-
--- bytes and one more spell a sign twice exactly if they are the sign, and so is the last
-twice : (x y : ℕ) (w : List ℕ) → same (x ∷ x ∷ []) (w ++ (y ∷ [])) ≡ same (x ∷ []) w && eqb x y
-unfolding same
-twice x y [] = and-false (eqb x y)
-twice x y (a ∷ []) = go (eqb x a) (eqb x y)
-  where
-    go : (p q : Bool) → p && (q && true) ≡ p && true && q
-    go true true = refl
-    go true false = refl
-    go false q = refl
-twice x y (a ∷ b ∷ w) = ap (λ (t : Bool). eqb x a && (eqb x b && t)) (longer w) ∙ go (eqb x a) (eqb x b)
-  where
-    longer : (v : List ℕ) → same [] (v ++ (y ∷ [])) ≡ false
-    longer [] = refl
-    longer (c ∷ v) = refl
-
-    go : (p q : Bool) → p && (q && false) ≡ p && false && eqb x y
-    go true true = refl
-    go true false = refl
-    go false q = refl
-
--- the operator's bytes, and what its operand begins with: both plus, or both minus
-abbrev spelled : List ℕ → ℕ → Bool
-spelled w b = same (plus ∷ []) w && eqb plus b || same (minus ∷ []) w && eqb minus b
-
-reads-spelled : (w : List ℕ) (b : ℕ) → reads-as-one (w ++ (b ∷ [])) ≡ spelled w b
-unfolding oneOf
-reads-spelled w b = rw (twice plus b w, twice minus b w) (ap (λ (t : Bool). same (plus ∷ []) w && eqb plus b || t) (or-false _))
-
--- 0 is no sign, and a byte that is none is like it
-neither : (w : List ℕ) (b : ℕ) → eqb plus b ≡ false → eqb minus b ≡ false → spelled w b ≡ false
-neither w b p m = rw (p, m, and-false (same (plus ∷ []) w), and-false (same (minus ∷ []) w)) refl
-
-as-sign : (w : List ℕ) (b : ℕ) → spelled w (signByte b) ≡ spelled w b
-as-sign w b = go (eqb b plus) (eqb b minus) refl refl
-  where
-    differs : (k : ℕ) → eqb b k ≡ false → eqb k b ≡ false
-    differs k e = ne-eqb k b (λ q. eqb-false b k e (sym q))
-
-    go : (p m : Bool) → eqb b plus ≡ p → eqb b minus ≡ m → spelled w (cond (p || m) b 0) ≡ spelled w b
-    go true m e f = refl
-    go false true e f = refl
-    go false false e f = neither w 0 refl refl ∙ sym (neither w b (differs plus e) (differs minus f))
 
 -- the rule is the sentence about the text of an operand that is formed
 pub worded : (op : Symbol) (bare : Bool) (e : Expr) → Formed-expr e → joins op bare e ≡ sameSign op bare e

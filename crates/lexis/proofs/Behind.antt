@@ -30,7 +30,7 @@ three s h f g k =
     either (identifier-word s || preprocessing-number s) (oneOf symbol-words s) h (λ i. either (identifier-word s) (preprocessing-number s) i f g) k
 
 -- by its first byte
-identifier-first : (b : ℕ) (s : List ℕ) → identifier-word (b ∷ s) ≡ true → nameByte b && not (digit b) ≡ true
+pub identifier-first : (b : ℕ) (s : List ℕ) → identifier-word (b ∷ s) ≡ true → nameByte b && not (digit b) ≡ true
 unfolding identifier-word
 identifier-first b s h = both (nameByte b && not (digit b)) (all nameByte s) h .0
 
@@ -38,11 +38,11 @@ symbol-word-first : (b : ℕ) (s : List ℕ) → oneOf symbol-words (b ∷ s) �
 unfolding everyWord symbol-words symbolText unaryOperators binaryOperators assignmentOperators nameByte letter digit white-space
 symbol-word-first b s h = passes (begins-with (λ c. not (nameByte c) && not (white-space c))) symbol-words (b ∷ s) refl h
 
-no-symbol-word : {C : Type 0} (b : ℕ) (s : List ℕ) → nameByte b ≡ true → oneOf symbol-words (b ∷ s) ≡ true → C
+pub no-symbol-word : {C : Type 0} (b : ℕ) (s : List ℕ) → nameByte b ≡ true → oneOf symbol-words (b ∷ s) ≡ true → C
 no-symbol-word b s h i = clash h (not-true (nameByte b) (both (not (nameByte b)) (not (white-space b)) (symbol-word-first b s i) .0))
 
 -- no letter or underscore begins a number
-letter-no-number : {C : Type 0} (b : ℕ) → nameByte b && not (digit b) ≡ true → digit b || eqb b (code ".") ≡ true → C
+pub letter-no-number : {C : Type 0} (b : ℕ) → nameByte b && not (digit b) ≡ true → digit b || eqb b (code ".") ≡ true → C
 letter-no-number b h n =
     let l = letter-from b h in
     either (digit b) (eqb b (code ".")) n (λ d. absurd (omega (arith, digit-range b d .1))) (λ p. absurd (omega (arith, eqb-true b (code ".") p)))

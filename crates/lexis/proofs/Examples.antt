@@ -13,7 +13,7 @@ use Rattle.words.proofs.Search.{everyWord}
 use Rattle.text.specs.Token.Token.{name}
 use Rattle.lexis.specs.Keywords.{keywords, vulkan-keywords, reserved-words, listed-words, listed}
 use Rattle.lexis.specs.Number.{decimal-or-octal, hexadecimal-rest, hexadecimal, integer-constant, sign, exponent-letter, exponent-digits, signed-exponent, exponent, behind-whole, floating-constant, number-word}
-use Rattle.lexis.specs.Glsl.{symbol-words, proper}
+use Rattle.lexis.specs.Glsl.{symbol-words, proper-where, proper}
 
 numbers : List String
 numbers =
@@ -35,11 +35,11 @@ are-no-numbers = refl
 
 -- names, and words that GLSL lists: a keyword that the printer writes and one that it does not, one of Vulkan's, a reserved one
 are-names : everyWord (λ n. proper (name n)) ("a" ∷ "_" ∷ "gl_Position" ∷ "vec5" ∷ "In" ∷ "main" ∷ []) ≡ true
-unfolding everyWord proper nameForm listed listed-words keywords vulkan-keywords reserved-words all same oneOf digit letter nameByte fixedWords typeKeywords otherWords qualifierWords jumpWords boolWords loneWords wordText
+unfolding everyWord proper-where nameForm listed listed-words keywords vulkan-keywords reserved-words all same oneOf digit letter nameByte fixedWords typeKeywords otherWords qualifierWords jumpWords boolWords loneWords wordText
 are-names = refl
 
 are-no-names : everyWord (λ n. not (proper (name n))) ("in" ∷ "vec2" ∷ "image2D" ∷ "texture2D" ∷ "asm" ∷ "" ∷ "2d" ∷ "a-b" ∷ []) ≡ true
-unfolding everyWord proper nameForm listed listed-words keywords vulkan-keywords reserved-words all same oneOf digit letter nameByte fixedWords typeKeywords otherWords qualifierWords jumpWords boolWords loneWords wordText
+unfolding everyWord proper-where nameForm listed listed-words keywords vulkan-keywords reserved-words all same oneOf digit letter nameByte fixedWords typeKeywords otherWords qualifierWords jumpWords boolWords loneWords wordText
 are-no-names = refl
 
 are-symbols : everyWord (oneOf symbol-words) ("+" ∷ "++" ∷ "<<=" ∷ "{" ∷ ";" ∷ "//" ∷ "/*" ∷ []) ≡ true

@@ -10,11 +10,11 @@ use lib.Dec.{ltb}
 use borrow.Author.Tests.{ltb-true}
 use Rattle.words.specs.Letter.{digit, letter, nameByte}
 use Rattle.words.specs.Form.{all, same, oneOf}
-use Rattle.words.specs.Word.{Word, StorageQualifier, PrecisionQualifier, InterpolationQualifier, wordText, qualifierWords, jumpWords, boolWords, loneWords}
+use Rattle.words.specs.Word.{Word, StorageQualifier, PrecisionQualifier, InterpolationQualifier, wordText, otherWords, qualifierWords, jumpWords, boolWords, loneWords}
 use Rattle.words.specs.Word.Word.{storage, precision-qualifier, interpolation, subroutine, layout, invariant, precise, continue, break, discard, return, precision, struct, if, else, switch, case, default, while, «do», for}
 use Rattle.words.specs.Symbol.{Symbol, symbolText, unaryOperators, binaryOperators, assignmentOperators}
 use Rattle.words.specs.Symbol.Symbol.{left-paren, right-paren, left-bracket, right-bracket, left-brace, right-brace, dot, comma, colon, semicolon, question, inc-op, dec-op, plus, dash, bang, tilde, or-op, xor-op, and-op, vertical-bar, caret, ampersand, eq-op, ne-op, left-angle, right-angle, le-op, ge-op, left-op, right-op, star, slash, percent, equal, mul-assign, div-assign, mod-assign, add-assign, sub-assign, left-assign, right-assign, and-assign, xor-assign, or-assign}
-use Rattle.words.specs.Keyword.{typeKeywords}
+use Rattle.words.specs.Keyword.{typeKeywords, fixedWords}
 use Rattle.words.proofs.Search.{same-eq, apart}
 use Rattle.word_table.proofs.Rule.{same-self}
 use Rattle.word_table.proofs.Sections.{type-row, word-apart}
@@ -219,16 +219,16 @@ word-listed w = found-passes listed-if-word fixed-tokens (spell (word w)) (word 
 
 -- no name and no number is spelled like one of them
 unlike : List ℕ → Bool
-unlike s = begins-with (λ b. not (digit b)) s && (listed s || begins-with (λ b. not (nameByte b)) s)
+unlike s = begins-with (λ b. not (digit b)) s && (oneOf fixedWords s || begins-with (λ b. not (nameByte b)) s)
 
 all-unlike : every (λ t. unlike (spell t)) fixed-tokens ≡ true
-unfolding every unlike listed listed-words keywords vulkan-keywords reserved-words same oneOf digit letter nameByte spell fixed-tokens others types-from typeKeywords qualifierWords jumpWords boolWords loneWords wordText symbolText unaryOperators binaryOperators assignmentOperators
+unfolding every unlike same oneOf digit letter nameByte spell fixed-tokens others types-from fixedWords typeKeywords otherWords qualifierWords jumpWords boolWords loneWords wordText symbolText unaryOperators binaryOperators assignmentOperators
 all-unlike = refl
 
 pub number-not-fixed : (b : ℕ) (bs : List ℕ) → digit b ≡ true → find fixed-tokens (b ∷ bs) ≡ none
 unfolding unlike
 number-not-fixed b bs h = none-found unlike fixed-tokens (b ∷ bs) all-unlike (rw h)
 
-pub name-not-fixed : (b : ℕ) (bs : List ℕ) → nameByte b ≡ true → listed (b ∷ bs) ≡ false → find fixed-tokens (b ∷ bs) ≡ none
+pub name-not-fixed : (b : ℕ) (bs : List ℕ) → nameByte b ≡ true → oneOf fixedWords (b ∷ bs) ≡ false → find fixed-tokens (b ∷ bs) ≡ none
 unfolding unlike
 name-not-fixed b bs h k = none-found unlike fixed-tokens (b ∷ bs) all-unlike (rw (h, k) (and-false (not (digit b))))

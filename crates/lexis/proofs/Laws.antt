@@ -63,7 +63,7 @@ symbol-lengthens xor-assign = ""
 symbol-lengthens or-assign = ""
 
 -- may b, right behind t, belong to a longer word than t? A point does so behind a whole number (1.x begins with the float 1.), and behind any other number in a wide language only: 1u.x and
--- 1.5.x are one word each to the preprocessor, but not to GLSL (what is said of GLSL alone, as 02, #107 will, takes `false`)
+-- 1.5.x are one word each to the preprocessor, but not to GLSL (what is said of GLSL alone, as in 02, #107, takes `false`)
 unfoldable pub lengthens : (wide : Bool) → Token → ℕ → Bool
 lengthens wide (name n) b = nameByte b
 lengthens wide (Token.type v) b = nameByte b

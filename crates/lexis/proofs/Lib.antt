@@ -10,6 +10,8 @@ pub mod Wider
 pub mod Numerals
 pub mod Behind
 pub mod Glsl
+pub mod Front
+pub mod Exact
 pub mod Examples
 pub mod Undivided
 pub mod Families

@@ -24,7 +24,7 @@ use Rattle.lexis.proofs.Digits.{digits-front, behind-front, digits-cut,
 use Rattle.lexis.proofs.Preprocessing.{digit-plain, calm}
 
 -- the text of a float from its digits before and behind the point
-float-text : (whole behind-point : List ℕ) → List ℕ
+pub float-text : (whole behind-point : List ℕ) → List ℕ
 float-text ds [] = ds
 float-text ds (f ∷ fs) = ds ++ (point ∷ f ∷ fs)
 
@@ -87,14 +87,14 @@ uint-numeral n = record {
 }
 
 -- a float's text: digits, and perhaps a point and digits; with a point it is written
-record Float (t : List ℕ) : Type 0 where
-  whole : List ℕ
-  behind : List ℕ
-  whole-digits : all digit whole ≡ true
-  whole-begins : begins-with digit whole ≡ true
-  behind-digits : all digit behind ≡ true
-  points : pointed t ≡ whole ++ (point ∷ behind)
-  texts : float-text whole behind ≡ t
+pub record Float (t : List ℕ) : Type 0 where
+  pub whole : List ℕ
+  pub behind : List ℕ
+  pub whole-digits : all digit whole ≡ true
+  pub whole-begins : begins-with digit whole ≡ true
+  pub behind-digits : all digit behind ≡ true
+  pub points : pointed t ≡ whole ++ (point ∷ behind)
+  pub texts : float-text whole behind ≡ t
 
 whole-some : (ds : List ℕ) → all digit ds ≡ true → wholePart ds ≡ true → begins-with digit ds ≡ true
 unfolding all wholePart
@@ -149,17 +149,17 @@ float-of t (b ∷ fs) q w h =
       texts = fraction-text (digits t) fs (a .1) ∙ sym e;
     }
 
-a-float : (t : List ℕ) → floatForm t ≡ true → Float t
+pub a-float : (t : List ℕ) → floatForm t ≡ true → Float t
 unfolding floatForm
 a-float t h =
     let a = both (between 1 longest-float (length t) && wholePart (digits t)) (nothingOrFraction (behindDigits t)) h in
     float-of t (behindDigits t) refl (both (between 1 longest-float (length t)) (wholePart (digits t)) (a .0) .1) (a .1)
 
-not-empty : (ds : List ℕ) → begins-with digit ds ≡ true → is-empty ds ≡ false
+pub not-empty : (ds : List ℕ) → begins-with digit ds ≡ true → is-empty ds ≡ false
 not-empty [] h = clash h refl
 not-empty (d ∷ ds) h = refl
 
-floating-word :
+pub floating-word :
     (ds fs r : List ℕ) → all digit ds ≡ true → begins-with digit ds ≡ true → all digit fs ≡ true → begins-with digit r ≡ false → floating-suffix r ≡ true
     → floating-constant (ds ++ (point ∷ (fs ++ r))) ≡ true
 unfolding floating-constant behind-whole digit

@@ -26,14 +26,14 @@ overlap [] (d ∷ w) bs cs q = first d w refl q
 overlap (c ∷ v) [] bs cs q = second c v refl (sym q)
 overlap (c ∷ v) (d ∷ w) bs cs q = one-more c d v w bs cs (cc) (overlap v w bs cs (cc))
 
-abbrev Solid : List ℕ → Type 0
+abbrev pub Solid : List ℕ → Type 0
 Solid w = begins-with (λ b. not (white-space b)) w ≡ true
 
 not-empty : (w bs : List ℕ) → Solid w → [] ≡ w ++ bs → ⊥
 not-empty [] bs h q = let z : _≡_ {A = ℕ} 0 1 = cc in omega arith
 not-empty (c ∷ w) bs h q = let z : _≡_ {A = ℕ} 0 1 = cc in omega arith
 
-not-skipped : (b : ℕ) (zs w bs : List ℕ) → white-space b ≡ true → Solid w → b ∷ zs ≡ w ++ bs → ⊥
+pub not-skipped : (b : ℕ) (zs w bs : List ℕ) → white-space b ≡ true → Solid w → b ∷ zs ≡ w ++ bs → ⊥
 not-skipped b zs [] bs s h q = let z : _≡_ {A = ℕ} 0 1 = cc in omega arith
 not-skipped b zs (d ∷ w) bs s h q = let e : b ≡ d = cc in let z : _≡_ {A = ℕ} 0 1 = cc in omega arith
 

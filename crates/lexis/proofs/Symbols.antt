@@ -6,16 +6,17 @@ use Prim.Native.Nat.{ℕ, zero, suc, _+_, _≤_, _<_}
 use Prim.Native.Char.{code}
 use native.Mathlib.Omega.{arith}
 use lib.Dec.{eqb}
-use borrow.Author.Tests.{eqb-true, eqb-false, eq-eqb, not-true}
+use borrow.Author.Tests.{eqb-true, eqb-false, eq-eqb}
 use Rattle.words.specs.Bytes.{bytes}
 use Rattle.words.specs.Letter.{digit, letter, nameByte}
-use Rattle.words.specs.Form.{same, oneOf}
+use Rattle.words.specs.Form.{all, same, oneOf}
 use Rattle.words.specs.Word.{qualifierWords, jumpWords, boolWords, loneWords}
 use Rattle.words.specs.Symbol.{Symbol, symbolText, unaryOperators, binaryOperators, assignmentOperators}
 use Rattle.words.specs.Keyword.{typeKeywords}
 use Rattle.words.proofs.Search.{same-eq, everyWord}
 use Rattle.text.specs.Token.{Token, spell, has}
 use Rattle.text.specs.Token.Token.{name, int, uint, float, double, word, symbol}
+use Rattle.text.specs.Visible.{blank}
 use Rattle.lexis.specs.Division.{begins-with}
 use Rattle.lexis.specs.Glsl.{symbol-words}
 use Rattle.lexis.proofs.Laws.{symbol-lengthens}
@@ -47,10 +48,10 @@ pub symbol-opens : (y : Symbol) → begins-with (λ b. not (nameByte b)) (spell 
 unfolding every on-symbols fixed-tokens others types-from typeKeywords qualifierWords jumpWords boolWords loneWords unaryOperators binaryOperators assignmentOperators spell symbolText nameByte letter digit
 symbol-opens = each-symbol (λ y. begins-with (λ b. not (nameByte b)) (spell (symbol y))) refl
 
--- no space makes one longer
-pub space-behind : (y : Symbol) → has (code " ") (bytes (symbol-lengthens y)) ≡ false
-unfolding every on-symbols fixed-tokens others types-from typeKeywords qualifierWords jumpWords boolWords loneWords unaryOperators binaryOperators assignmentOperators has symbol-lengthens
-space-behind y = not-true (has (code " ") (bytes (symbol-lengthens y))) (each-symbol (λ z. not (has (code " ") (bytes (symbol-lengthens z)))) refl y)
+-- no blank makes one longer
+pub no-blank : (y : Symbol) → all (λ b. not (blank b)) (bytes (symbol-lengthens y)) ≡ true
+unfolding every on-symbols fixed-tokens others types-from typeKeywords qualifierWords jumpWords boolWords loneWords unaryOperators binaryOperators assignmentOperators all symbol-lengthens
+no-blank = each-symbol (λ y. all (λ b. not (blank b)) (bytes (symbol-lengthens y))) refl
 
 -- where w goes on from s, it goes on with one of these bytes
 follows : (s w next : List ℕ) → Bool

@@ -12,7 +12,7 @@ use Rattle.lexis.specs.Keywords.{listed}
 use Rattle.lexis.specs.Number.{number-word}
 use Rattle.lexis.specs.Division.{white-space, Longest, Divides}
 use Rattle.lexis.specs.Division.Divides.{at-end, skip, take}
-use Rattle.lexis.specs.Glsl.{identifier-word, symbol-words, glsl-word, proper, Lexeme, GlslDivides}
+use Rattle.lexis.specs.Glsl.{identifier-word, symbol-words, glsl-word, proper-where, unlisted, proper, Lexeme, GlslDivides}
 use Rattle.lexis.specs.Preprocessing.{Between}
 use Rattle.lexis.proofs.Tests.{both, clash, or-left}
 use Rattle.lexis.proofs.Behind.{solid-word}
@@ -39,7 +39,7 @@ module _ (w : List ℕ) (is-identifier : identifier-word w ≡ true) (is-listed 
   is-word = or-left (identifier-word w || number-word w) (oneOf symbol-words w) (or-left (identifier-word w) (number-word w) is-identifier)
 
   not-ours : (t : Token) → Lexeme w t → ⊥
-  unfolding proper
+  unfolding proper-where
   not-ours t l =
       let e : proper (name w) ≡ true = subst (λ (u : Token). proper u ≡ true) (only-name w is-identifier not-written t l) (l .is-proper) in
       clash (both (nameForm w) (not (listed w)) e .1) (ap not is-listed)
@@ -49,4 +49,4 @@ module _ (w : List ℕ) (is-identifier : identifier-word w ≡ true) (is-listed 
 
 -- a word that GLSL has not: all our tokens are words of GLSL
 pub foreign-undivided : {W : List ℕ → Bool} → Between W → (w : List ℕ) → W w ≡ true → glsl-word w ≡ false → {bs : List ℕ} {ts : List Token} → Divides Lexeme W bs ts → w ≡ bs → ⊥
-foreign-undivided between w h f d e = undivided between w h (λ t l. clash (vocabulary glsl-word glsl-between .within w t l) f) d e
+foreign-undivided between w h f d e = undivided between w h (λ t l. clash (vocabulary unlisted glsl-word glsl-between .within w t l) f) d e

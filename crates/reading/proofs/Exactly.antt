@@ -10,20 +10,18 @@ use Rattle.text.specs.Text.{show-expr}
 use Rattle.text.specs.Whole.{exprText}
 use Rattle.grammar.specs.Same.{Same}
 use Rattle.grammar.proofs.Alike.{same-text}
-use Rattle.glsl.specs.Printed.{exprOutcome}
-use Rattle.reading.specs.Demand3.{Call, recorded, ApartAndSound}
-use Rattle.reading.proofs.Demand3.{whole-front, in-glsl}
+use Rattle.reading.specs.Call.{ExprCall}
+use Rattle.reading.specs.Demand3.{recorded, ApartAndSound}
+use Rattle.reading.proofs.Passed.{text-written}
+use Rattle.reading.proofs.Demand3.{in-glsl}
 
 -- what is handed back, by the settings and the expression
-written-by : (c : Call) (settings : List ℕ) → c .settings ≡ settings → c .written ≡ text (settingsOf settings) (show-expr (recorded c)) fresh
+written-by : (c : ExprCall) (settings : List ℕ) → c .settings ≡ settings → c .written ≡ text (settingsOf settings) (show-expr (recorded c)) fresh
 unfolding exprText
-written-by c settings e =
-    c .promised .handed
-    ∙ whole-front (exprOutcome (c .settings) (c .records) (c .names) (c .room)) (exprText (c .settings) (c .records) (c .names)) (sym (c .promised .numbered) ∙ c .accepted)
-    ∙ ap (λ (bytes : List ℕ). text (settingsOf bytes) (show-expr (recorded c)) fresh) e
+written-by c settings e = text-written c ∙ ap (λ (bytes : List ℕ). text (settingsOf bytes) (show-expr (recorded c)) fresh) e
 
-pub same-written : (c d : Call) → c .settings ≡ d .settings → Same (recorded c) (recorded d) → c .written ≡ d .written
+pub same-written : (c d : ExprCall) → c .settings ≡ d .settings → Same (recorded c) (recorded d) → c .written ≡ d .written
 same-written c d e same = written-by c (d .settings) e ∙ same-text (recorded c) (recorded d) same (settingsOf (d .settings)) fresh ∙ sym (written-by d (d .settings) refl)
 
-pub exactly : (c d : Call) → ApartAndSound c → ApartAndSound d → c .settings ≡ d .settings → (Same (recorded c) (recorded d) → c .written ≡ d .written) × (c .written ≡ d .written → Same (recorded c) (recorded d))
+pub exactly : (c d : ExprCall) → ApartAndSound c → ApartAndSound d → c .settings ≡ d .settings → (Same (recorded c) (recorded d) → c .written ≡ d .written) × (c .written ≡ d .written → Same (recorded c) (recorded d))
 exactly c d h k e = (same-written c d e, in-glsl .told-apart c d h k)

@@ -11,11 +11,12 @@ use Rattle.text.proofs.Computing.{computing}
 use Rattle.grammar.specs.Same.{Same}
 use Rattle.glsl.specs.Printed.{fitted, outcome}
 use Rattle.reading.specs.Read.{IsRead}
-use Rattle.reading.specs.Demand3.{Call, recorded, SpacedAndSound, Demand3-of-00}
+use Rattle.reading.specs.Call.{ExprCall}
+use Rattle.reading.specs.Demand3.{recorded, SpacedAndSound, Demand3-of-00}
 use Rattle.reading.proofs.Computing.{reading}
 use Rattle.reading.proofs.Story.{names, decremented-minus, different, call, open-call, open-sound}
 
-unfoldable other-call : Call
+unfoldable other-call : ExprCall
 unfolding computing checking reading fitted outcome
 other-call = call OPEN decremented-minus names (bytes "n-- - k") refl (record { handed = refl; numbered = refl; placed = refl })
 
@@ -28,8 +29,8 @@ unfolding computing other-call open-call
 not-same = different
 
 module _ {W : List ℕ → Bool} (d : Demand3-of-00 W) where
-  pub no-shared-text : (a b : Call) → SpacedAndSound a → SpacedAndSound b → (Same (recorded a) (recorded b) → ⊥) → (text : List ℕ) → a .written ≡ text → b .written ≡ text → ⊥
+  pub no-shared-text : (a b : ExprCall) → SpacedAndSound a → SpacedAndSound b → (Same (recorded a) (recorded b) → ⊥) → (text : List ℕ) → a .written ≡ text → b .written ≡ text → ⊥
   no-shared-text a b h k apart text e f = apart (d .told-apart a b h k (e ∙ sym f))
 
-  pub no-fixed-text : (text : List ℕ) → ((c : Call) → SpacedAndSound c → IsRead W text (recorded c)) → ⊥
+  pub no-fixed-text : (text : List ℕ) → ((c : ExprCall) → SpacedAndSound c → IsRead W text (recorded c)) → ⊥
   no-fixed-text text read = not-same (d .unambiguous text (recorded other-call) (recorded open-call) (read other-call other-sound) (read open-call open-sound))

@@ -1,10 +1,13 @@
 pub mod Computing
+pub mod Passed
 pub mod Demand3
 pub mod Contract
 pub mod Calls
+pub mod Spaces
 pub mod Exactly
 pub mod Spelled
 pub mod Needed
 pub mod Story
+pub mod Slips
 pub mod Fixed
 pub mod Sample

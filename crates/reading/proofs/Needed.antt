@@ -29,7 +29,7 @@ use Rattle.text.proofs.Computing.{computing}
 use Rattle.formed.specs.Formed.{Formed-expr}
 use Rattle.lexis.specs.Keywords.{listed}
 use Rattle.lexis.specs.Number.{decimal-or-octal, hexadecimal, integer-constant, exponent-letter, exponent, behind-whole, floating-constant, number-word}
-use Rattle.lexis.specs.Glsl.{identifier-word, symbol-words, glsl-word}
+use Rattle.lexis.specs.Glsl.{identifier-word, symbol-words, glsl-word, unlisted}
 use Rattle.lexis.specs.Preprocessing.{plain, goes-on, opens-number, preprocessing-number, preprocessing-word}
 use Rattle.lexis.proofs.Fixed.{types-from, others, fixed-tokens, find}
 use Rattle.lexis.proofs.Undivided.{listed-undivided, foreign-undivided}
@@ -42,7 +42,7 @@ use Rattle.grammar.specs.Same.{Same}
 use Rattle.grammar.proofs.Reader.{read}
 use Rattle.grammar.proofs.Agree.{reader-derives, reader-refuses}
 use Rattle.sound.specs.Sound.{Mixed, Numeric, SoundUnder}
-use Rattle.sound.proofs.Clear.{true-false}
+use Rattle.lexis.proofs.Tests.{clash}
 use Rattle.reading.specs.Read.{IsRead}
 use Rattle.reading.proofs.Computing.{reading}
 use Rattle.reading.proofs.Spelled.{Item, gap, tok, spelled, tokens, apart, spelled-divides}
@@ -74,7 +74,7 @@ pub negative : (byte : ℕ) → Misread byte (IntConst (2 ^ 32 - 1)) "-1" (Unary
 unfolding computing reading
 negative byte = record {
   formed = omega arith;
-  unsound = λ s. true-false s;
+  unsound = λ s. clash refl s;
   printed = refl;
   read = as-reader (tok (symbol dash) ∷ tok (int 1) ∷ []) refl (Unary UnaryOp.Minus (IntConst 1)) refl;
   other = λ s. let z : _≡_ {A = ℕ} 0 1 = cc in omega arith;
@@ -156,7 +156,7 @@ pub record Unread (W : List ℕ → Bool) (byte : ℕ) (tree : Expr) (written : 
 -- where the reader refuses the tokens
 pub as-refused : (is : List Item) → apart is ≡ true → read (tokens is) ≡ none → (e : Expr) → IsRead glsl-word (spelled is) e → ⊥
 as-refused is h r e d =
-    reader-refuses (tokens is) r e (subst (λ (ts : List Token). Derives expression ts (expr e)) (one-division (vocabulary glsl-word glsl-between) (d .divided) (spelled-divides is h) refl) (d .derived))
+    reader-refuses (tokens is) r e (subst (λ (ts : List Token). Derives expression ts (expr e)) (one-division (vocabulary unlisted glsl-word glsl-between) (d .divided) (spelled-divides is h) refl) (d .derived))
 
 -- "sized dimensions at 15 or below"
 pub dimension : (byte : ℕ) → Unread glsl-word byte (FunCall (OfType (type (Keyword 2) (dimensions (ExplicitlySized (Comma (var "a") (var "b"))) no-dimensions))) no-exprs) "int[a, b]()"
@@ -173,7 +173,7 @@ pub listed-name : (byte : ℕ) → Unread glsl-word byte (var "goto") "goto"
 unfolding computing reading identifier-word types-from others fixed-tokens find
 listed-name byte = record {
   formed = refl;
-  unsound = λ s. true-false s;
+  unsound = λ s. clash refl s;
   printed = refl;
   unread = λ e d. listed-undivided (bytes "goto") refl refl refl (d .divided) refl;
 }

@@ -8,12 +8,12 @@ use borrow.Author.Tests.{not-true}
 use Rattle.text.specs.Token.{Token, spell}
 use Rattle.lexis.specs.Division.{white-space}
 use Rattle.lexis.specs.Division.Divides.{at-end, skip}
-use Rattle.lexis.specs.Glsl.{proper, glsl-word, GlslDivides}
+use Rattle.lexis.specs.Glsl.{proper, glsl-word, unlisted, GlslDivides}
 use Rattle.lexis.proofs.Laws.{lengthens}
 use Rattle.lexis.proofs.Tests.{both}
 use Rattle.lexis.proofs.Glsl.{spelling, glsl-between}
-use Rattle.sound.proofs.Clear.{Clear}
-use Rattle.sound.proofs.Parts.{taken}
+use Rattle.division.proofs.Clear.{Clear}
+use Rattle.division.proofs.Parts.{taken}
 
 pub data Item : Type 0 where
   gap : Item
@@ -50,4 +50,4 @@ spelled-divides (gap ∷ is) h = skip refl (spelled-divides is h)
 spelled-divides (tok t ∷ is) h =
     let g = both (proper t && clear t (spelled is)) (apart is) h in
     let k = both (proper t) (clear t (spelled is)) (g .0) in
-    taken (spelling glsl-word glsl-between) t (k .0) (is-clear t (spelled is) (k .1)) (spelled-divides is (g .1))
+    taken (spelling unlisted glsl-word glsl-between) t (k .0) (is-clear t (spelled is) (k .1)) (spelled-divides is (g .1))

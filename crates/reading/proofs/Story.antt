@@ -33,7 +33,10 @@ use Rattle.glsl.specs.Printed.{exprOutcome, front, fitted, outcome}
 use Rattle.glsl.specs.Joined.{whetherJoined, joinedOutcome}
 use Rattle.glsl.specs.declared.Whether.the-variants.{No, Yes}
 use Rattle.reading.specs.Read.{IsRead}
-use Rattle.reading.specs.Demand3.{Promised, Call, SpacedAndSound}
+use Rattle.draft.specs.declared.Root.{Root}
+use Rattle.draft.specs.declared.Root.the-variants as Root
+use Rattle.reading.specs.Call.{Promised, Call, ExprCall}
+use Rattle.reading.specs.Demand3.{SpacedAndSound}
 use Rattle.reading.proofs.Computing.{reading}
 use Rattle.reading.proofs.Demand3.{in-glsl, covered, one-expression}
 use Rattle.reading.proofs.Spelled.{tok}
@@ -60,7 +63,7 @@ abbrev n-decremented-minus-k : Expr
 n-decremented-minus-k = Binary BinaryOp.Sub (PostDec (Variable (bytes "n"))) (Variable (bytes "k"))
 
 -- minus of a decremented k and a decremented minus k; the field lf of 1 (kind 13, kind 2), and a double (kind 6)
-abbrev minus-over : List ℕ
+abbrev pub minus-over : List ℕ
 minus-over = plain 7 3 ++ plain 7 1 ++ named 1 0 0
 
 abbrev decrement-over : List ℕ
@@ -134,8 +137,8 @@ pub different : Same n-decremented-minus-k n-minus-decremented-k → ⊥
 unfolding reading
 different s = let z : _≡_ {A = ℕ} 0 1 = cc in omega arith
 
--- a call of print_expr that writes these bytes
-abbrev pub call : (settings records names written : List ℕ) → all (λ b. ltb b 256) records ≡ true → Promised settings records names room written 0 0 → Call
+-- a call that writes these bytes
+abbrev pub call : {root : Root} (settings records names written : List ℕ) → all (λ b. ltb b 256) records ≡ true → Promised root settings records names room written 0 0 → Call root
 call settings records names written below promised = record {
   settings = settings;
   records = records;
@@ -150,7 +153,7 @@ call settings records names written below promised = record {
 }
 
 -- the call in OPEN, of an expression that is sound and printed with spaces
-unfoldable pub open-call : Call
+unfoldable pub open-call : ExprCall
 unfolding computing checking reading fitted outcome
 open-call = call OPEN minus-decremented names (bytes "n - --k") refl (record { handed = refl; numbered = refl; placed = refl })
 
@@ -163,7 +166,7 @@ unfolding computing checking reading fitted outcome open-call
 open-sound = record { spaced = refl; sound = (refl, (over-name false UnaryOp.Dec (bytes "k"), refl)) }
 
 -- a call in EXPORT, of an expression that is sound where spaces are kept
-export-read : (records names : List ℕ) (written : String) (tree : Expr) → all (λ b. ltb b 256) records ≡ true → Promised EXPORT records names room (bytes written) 0 0
+export-read : (records names : List ℕ) (written : String) (tree : Expr) → all (λ b. ltb b 256) records ≡ true → Promised Root.Expr EXPORT records names room (bytes written) 0 0
     → expr (from records names 0) .tree ≡ tree → Sound listed true tree → Exported records names written tree
 unfolding computing
 export-read records names written tree below promised first sound = record {

@@ -35,7 +35,7 @@ use Rattle.grammar.proofs.Levels.{level}
 use Rattle.grammar.proofs.Specifiers.{Specifier, plain, and-open, and-sized, specifier-derived}
 use Rattle.grammar.proofs.Arguments.{Arguments, Parameters, no-arguments, some-arguments, first-parameter, next-parameter}
 use Rattle.sound.specs.Sound.{NotNegative, Sound, SoundCallee, SoundArguments, SoundType, SoundArray, SoundDimension}
-use Rattle.sound.proofs.Tokens.{tokens-append}
+use Rattle.division.proofs.Tokens.{tokens-append}
 use Rattle.sound.proofs.Joined.{and-exprs, and-no-exprs, and-first-expr, and-dimensions, and-no-dimensions, and-first-dimension}
 use Rattle.sound.proofs.Shows.{Shows, apart-shown, prefix-shown, binary-shown, assignment-shown, comma-shown, ternary-shown, postfix-shown, field-shown, index-shown, call-shown, weaker-shown, expression-shown, operand-shown}
 

@@ -1,11 +1,6 @@
-pub mod Tokens
 pub mod Joined
 pub mod Shows
 pub mod Derived
-pub mod Clear
-pub mod Parts
-pub mod Kept
-pub mod Divided
 pub mod SoundKept
 pub mod Glsl
 pub mod Relaxed

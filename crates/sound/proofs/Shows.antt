@@ -24,7 +24,7 @@ use Rattle.grammar.proofs.Strengths.{same-strength}
 use Rattle.grammar.proofs.Levels.{level, weakened, postfixed, prefixed, binary, assigned}
 use Rattle.grammar.proofs.Settled.{PostfixOp, postfix-symbol, posted}
 use Rattle.grammar.proofs.Arguments.{Arguments, call-derived}
-use Rattle.sound.proofs.Tokens.{tokens-append}
+use Rattle.division.proofs.Tokens.{tokens-append}
 
 pub record Shows (n : Nonterminal) (cs : List Command) (v : Value) : Type 0 where
   pub derivation : Derives n (tokensOf cs) v

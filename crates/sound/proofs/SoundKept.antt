@@ -1,7 +1,7 @@
--- A sound expression keeps its tokens apart (proofs/Kept) under settings that put spaces around operators or where they are needed: with the latter by these, without them because each place where a
+-- A sound expression keeps its tokens apart (division, proofs/Kept) under settings that put spaces around operators or where they are needed: with the latter by these, without them because each place where a
 -- sign or a dot would be read together with what stands before it, but behind a binary operator, is excluded by a condition of soundness. Assumes nothing.
 use mathlib.Core.Path.{_≡_, refl, sym, ap, subst, _∙_}
-use mathlib.Core.Bool.{Bool, true, false, not, _&&_, _||_, and-false}
+use mathlib.Core.Bool.{Bool, true, false, not, _||_}
 use mathlib.Core.List.{List}
 use Prim.Native.Nat.{ℕ, _≤_}
 use native.Mathlib.Omega.{arith}
@@ -24,10 +24,10 @@ use Rattle.text.specs.Operator.{precedence, unary-symbol, doubles, doubled, bar
 use Rattle.text.specs.Joins.{unary-sign, sign-if, sign, sign-callee, joins, joins-under, joins-right, is-int}
 use Rattle.grammar.proofs.Ladder.{ladder}
 use Rattle.grammar.proofs.Strengths.{same-strength}
-use Rattle.lexis.proofs.Tests.{both}
+use Rattle.lexis.proofs.Tests.{both, clash}
 use Rattle.sound.specs.Sound.{Mixed, Unmixed, Numeric, NotNumeric, Sound, SoundCallee, SoundArguments, SoundType, SoundArray, SoundDimension, SoundUnder, KeepsApart}
-use Rattle.sound.proofs.Clear.{true-false}
-use Rattle.sound.proofs.Kept.{is-other, Asked, Kept, KeptCallee, KeptArguments, KeptType, KeptArray, KeptDimension}
+use Rattle.lexis.specs.Glsl.{any}
+use Rattle.division.proofs.Kept.{is-other, Asked, Kept, KeptCallee, KeptArguments, KeptType, KeptArray, KeptDimension}
 
 -- no Dot over a numeric constant, by tests
 not-int : (e : Expr) → NotNumeric false e → is-int e ≡ false
@@ -161,10 +161,10 @@ module _ (listed : List ℕ → Bool) where
 
 -- where there are no spaces around operators, settings that keep apart put them where they are needed
 else-needed : (around needed : Bool) → around || needed ≡ true → around ≡ false → needed ≡ true
-else-needed true needed h off = true-false off
+else-needed true needed h off = clash refl off
 else-needed false needed h off = h
 
-module _ (listed : List ℕ → Bool) (wide : Bool) (s : Settings) (apart : KeepsApart s) where
+module _ (listed : List ℕ → Bool) (s : Settings) (apart : KeepsApart s) where
   abbrev kept : Bool
   kept = s .«spaces_where_needed»
 
@@ -174,7 +174,7 @@ module _ (listed : List ℕ → Bool) (wide : Bool) (s : Settings) (apart : Keep
     where
       go : (k : Bool) → kept ≡ k → Sound listed k e → Unmixed k op e → kept ≡ true
       go true q t m = q
-      go false q t m = true-false (sym j ∙ unjoined listed op e t m)
+      go false q t m = clash j (unjoined listed op e t m)
 
   binary-kept : (op : BinaryOp) (r : Expr) → flag s spaces-around-binary-ops ≡ false → Asked s (joins-right op r) needed-operator-spaces
   unfolding flag
@@ -186,20 +186,15 @@ module _ (listed : List ℕ → Bool) (wide : Bool) (s : Settings) (apart : Keep
     where
       go : (k : Bool) → kept ≡ k → NotNumeric k e → kept ≡ true
       go true q n = q
-      go false q n = true-false (sym j ∙ not-int e n)
+      go false q n = clash j (not-int e n)
 
-  no-other : (e : Expr) → NotNumeric kept e → wide && is-other e ≡ false
-  no-other e n = rw (not-other kept e n) (and-false wide)
-
-  abbrev passes : List ℕ → Bool
-  passes n = not (listed n)
-
+  -- every place has its space
   mutual
-    unfolding Sound SoundCallee SoundArguments SoundType SoundArray SoundDimension Kept KeptCallee KeptArguments KeptType KeptArray KeptDimension
+    unfolding Sound Kept
 
-    pub sound-kept : (e : Expr) → SoundUnder listed s e → Kept wide passes s e
-    sound-kept no-expr t = t
-    sound-kept (Variable n) t = ap not t
+    pub sound-kept : (e : Expr) → SoundUnder listed s e → Kept false any s e
+    sound-kept no-expr t = tt
+    sound-kept (Variable n) t = refl
     sound-kept (IntConst n) t = tt
     sound-kept (UIntConst n) t = tt
     sound-kept (BoolConst b) t = tt
@@ -211,31 +206,82 @@ module _ (listed : List ℕ → Bool) (wide : Bool) (s : Settings) (apart : Keep
     sound-kept (Assignment op v e) t = (sound-kept v t.1, sound-kept e t.2)
     sound-kept (Bracket e a) t = (sound-kept e t.0, sound-kept a t.1)
     sound-kept (FunCall f es) t = (callee-kept f t.0, arguments-kept es t.1)
-    sound-kept (Dot i e) t = (dot-kept e t.0, no-other e t.0, ap not t.1, sound-kept e t.2)
+    sound-kept (Dot i e) t = (dot-kept e t.0, refl, refl, sound-kept e t.2)
     sound-kept (PostInc e) t = sound-kept e t
     sound-kept (PostDec e) t = sound-kept e t
     sound-kept (Comma a b) t = (sound-kept a t.0, sound-kept b t.1)
 
-    callee-kept : (f : FunIdentifier) → SoundCallee listed kept f → KeptCallee wide passes s f
+    callee-kept : (f : FunIdentifier) → SoundCallee listed kept f → KeptCallee false any s f
     callee-kept (OfType t) h = type-kept t h
-    callee-kept (OfExpr e) h = subst (λ (a : Expr). Kept wide passes s a) (sym (h .1)) (ap not (h .2))
+    callee-kept (OfExpr e) h = subst (λ (a : Expr). Kept false any s a) (sym (h .1)) refl
 
-    arguments-kept : (es : Exprs) → SoundArguments listed kept es → KeptArguments wide passes s es
+    arguments-kept : (es : Exprs) → SoundArguments listed kept es → KeptArguments false any s es
     arguments-kept no-exprs t = tt
     arguments-kept (exprs e es) t = (sound-kept e t.1, arguments-kept es t.2)
 
-    type-kept : (t : TypeSpecifier) → SoundType listed kept t → KeptType wide passes s t
-    type-kept no-type h = h
-    type-kept (type no-base ds) h = absurd h.0
+    type-kept : (t : TypeSpecifier) → SoundType listed kept t → KeptType false any s t
+    type-kept no-type h = tt
+    type-kept (type no-base ds) h = (tt, array-kept ds h.1)
     type-kept (type (Keyword v) ds) h = (tt, array-kept ds h.1)
-    type-kept (type (TypeName n) ds) h = (ap not h.0, array-kept ds h.1)
+    type-kept (type (TypeName n) ds) h = (refl, array-kept ds h.1)
     type-kept (type (Struct n fs) ds) h = absurd h.0
 
-    array-kept : (ds : ArraySpecifier) → SoundArray listed kept ds → KeptArray wide passes s ds
+    array-kept : (ds : ArraySpecifier) → SoundArray listed kept ds → KeptArray false any s ds
     array-kept no-dimensions h = tt
     array-kept (dimensions d ds) h = (dimension-kept d h.0, array-kept ds h.1)
 
-    dimension-kept : (d : ArraySpecifierDimension) → SoundDimension listed kept d → KeptDimension wide passes s d
-    dimension-kept no-dimension h = h
+    dimension-kept : (d : ArraySpecifierDimension) → SoundDimension listed kept d → KeptDimension false any s d
+    dimension-kept no-dimension h = tt
     dimension-kept Unsized h = tt
     dimension-kept (ExplicitlySized e) h = sound-kept e h.1
+
+-- What is sound has no listed name and no dot behind another number than an IntConst: so where every place has its space, its text is divided in wide languages too, into tokens that are proper.
+module _ (listed : List ℕ → Bool) (kept : Bool) (s : Settings) where
+  abbrev passes : List ℕ → Bool
+  passes n = not (listed n)
+
+  mutual
+    unfolding Sound Kept
+
+    pub widely-kept : (e : Expr) → Sound listed kept e → Kept false any s e → Kept true passes s e
+    widely-kept no-expr t k = tt
+    widely-kept (Variable n) t k = ap not t
+    widely-kept (IntConst n) t k = tt
+    widely-kept (UIntConst n) t k = tt
+    widely-kept (BoolConst b) t k = tt
+    widely-kept (FloatConst x) t k = tt
+    widely-kept (DoubleConst x) t k = tt
+    widely-kept (Unary op e) t k = (k.0, widely-kept e t.1 k.1)
+    widely-kept (Binary op l r) t k = (k.0, widely-kept l t.0 k.1, widely-kept r t.1 k.2)
+    widely-kept (Ternary c a b) t k = (widely-kept c t.0 k.0, widely-kept a t.1 k.1, widely-kept b t.2 k.2)
+    widely-kept (Assignment op v e) t k = (widely-kept v t.1 k.0, widely-kept e t.2 k.1)
+    widely-kept (Bracket e a) t k = (widely-kept e t.0 k.0, widely-kept a t.1 k.1)
+    widely-kept (FunCall f es) t k = (callee-widely f t.0 k.0, arguments-widely es t.1 k.1)
+    widely-kept (Dot i e) t k = (k.0, not-other kept e t.0, ap not t.1, widely-kept e t.2 k.3)
+    widely-kept (PostInc e) t k = widely-kept e t k
+    widely-kept (PostDec e) t k = widely-kept e t k
+    widely-kept (Comma a b) t k = (widely-kept a t.0 k.0, widely-kept b t.1 k.1)
+
+    callee-widely : (f : FunIdentifier) → SoundCallee listed kept f → KeptCallee false any s f → KeptCallee true passes s f
+    callee-widely (OfType t) h k = type-widely t h k
+    callee-widely (OfExpr e) h k = subst (λ (a : Expr). Kept true passes s a) (sym (h .1)) (ap not (h .2))
+
+    arguments-widely : (es : Exprs) → SoundArguments listed kept es → KeptArguments false any s es → KeptArguments true passes s es
+    arguments-widely no-exprs t k = tt
+    arguments-widely (exprs e es) t k = (widely-kept e t.1 k.0, arguments-widely es t.2 k.1)
+
+    type-widely : (t : TypeSpecifier) → SoundType listed kept t → KeptType false any s t → KeptType true passes s t
+    type-widely no-type h k = tt
+    type-widely (type no-base ds) h k = (tt, array-widely ds h.1 k.1)
+    type-widely (type (Keyword v) ds) h k = (tt, array-widely ds h.1 k.1)
+    type-widely (type (TypeName n) ds) h k = (ap not h.0, array-widely ds h.1 k.1)
+    type-widely (type (Struct n fs) ds) h k = absurd h.0
+
+    array-widely : (ds : ArraySpecifier) → SoundArray listed kept ds → KeptArray false any s ds → KeptArray true passes s ds
+    array-widely no-dimensions h k = tt
+    array-widely (dimensions d ds) h k = (dimension-widely d h.0 k.0, array-widely ds h.1 k.1)
+
+    dimension-widely : (d : ArraySpecifierDimension) → SoundDimension listed kept d → KeptDimension false any s d → KeptDimension true passes s d
+    dimension-widely no-dimension h k = tt
+    dimension-widely Unsized h k = tt
+    dimension-widely (ExplicitlySized e) h k = widely-kept e h.1 k

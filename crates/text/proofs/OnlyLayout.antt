@@ -65,7 +65,7 @@ cond-blank true bs e = e
 cond-blank false bs e = refl
 
 -- what a command writes, but for blanks, is its token
-written-token : (s : Settings) (c : Command) (x : FormattingState) → visible (written s c x) ≡ visible (spelled (tokenOf c))
+pub written-token : (s : Settings) (c : Command) (x : FormattingState) → visible (written s c x) ≡ visible (spelled (tokenOf c))
 unfolding written visible spelled
 written-token s (token t) x = ap visible (sym (append-nil (spell t)))
 written-token s space x = refl

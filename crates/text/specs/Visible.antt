@@ -1,4 +1,4 @@
--- The tokens of a list of commands, and a text without its blanks: for the law that settings are only layout. Assumes nothing.
+-- The tokens of a list of commands, and a text without its blanks (02, #107). Assumes nothing.
 use mathlib.Core.Bool.{Bool, _||_, cond}
 use mathlib.Core.List.{List, [], _∷_, _++_}
 use Prim.Native.Nat.{ℕ}

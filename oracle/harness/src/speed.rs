@@ -6,11 +6,11 @@
 
 use crate::library::{self, Loaded};
 use crate::{stack, ROOTS};
-use glsl_lang::ast;
 use glsl_lang::transpiler::glsl::FormattingSettings;
 use oracle::answer::{Question, Root};
 use oracle::cases::{large, limits, tight};
 use oracle::random::Random;
+use oracle::read::Tree;
 use oracle::record::SIZE;
 use oracle::refusal::Refusal;
 use oracle::tree::{many, var};
@@ -28,12 +28,6 @@ const NAMES: usize = 256;
 /// Room for every text here.
 const ROOM: usize = 1 << 20;
 
-/// A tree as the Rust module takes it.
-enum Tree {
-    Unit(ast::TranslationUnit),
-    Expr(ast::Expr),
-}
-
 /// A question in TIGHT, in EXPORT and in OPEN, and its tree.
 struct Sample {
     tight: Question,
@@ -44,11 +38,7 @@ struct Sample {
 
 impl Sample {
     fn new(tight: Question) -> Result<Self, Refusal> {
-        let Question { root, records, names, .. } = &tight;
-        let tree = match root {
-            Root::Unit => Tree::Unit(read::unit(records, names)?.tree),
-            Root::Expr => Tree::Expr(read::expr(records, names)?.tree),
-        };
+        let tree = read::tree(&tight)?;
         let with = |settings: &[u8]| Question { settings: settings.to_vec(), ..tight.clone() };
         let (export, open) = (with(&settings::EXPORT), with(&settings::OPEN));
         Ok(Self { tight, export, open, tree })
@@ -60,12 +50,8 @@ impl Sample {
 
     /// The length of the Rust module's text.
     fn rust_print(&self, settings: &FormattingSettings) -> i64 {
-        let text = match &self.tree {
-            Tree::Unit(unit) => print::unit(unit, settings),
-            Tree::Expr(expr) => print::expr(expr, settings),
-        };
         // Texts are short.
-        black_box(text).len() as i64
+        black_box(print::tree(&self.tree, settings)).len() as i64
     }
 }
 

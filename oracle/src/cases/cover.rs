@@ -7,10 +7,17 @@ use std::collections::BTreeMap;
 
 /// The last kind that an expression can hold: a layout's id, in a struct that is called.
 const LAST_OF_EXPR: u8 = 30;
+/// The kind of a struct.
+const STRUCT: u8 = 23;
 
 /// The records of a question, as far as they are whole.
 pub fn records(question: &Question) -> impl Iterator<Item = Record> + '_ {
     question.records.as_chunks::<SIZE>().0.iter().map(Record::from_bytes)
+}
+
+/// Whether a tree has a struct. An expression has them in the types of callees alone.
+pub fn has_struct(question: &Question) -> bool {
+    records(question).any(|record| record.kind == STRUCT)
 }
 
 /// Every kind and variant that a tree with this root can hold.

@@ -44,7 +44,7 @@ impl Grower {
     }
 
     fn question(mut self, root: Root) -> Question {
-        let mut settings = self.settings();
+        let mut settings = settings::any(&mut self.random).to_vec();
         let room = self.room();
         match root {
             Root::Unit => self.unit(room),
@@ -53,14 +53,6 @@ impl Grower {
         // Behind the tree, so that a seed's trees are those that it had before there was a byte 21 (02, #106).
         settings.extend(self.random.weighted(&[(40, None), (20, Some(0)), (40, Some(1))]).flatten());
         Question { root, settings, records: self.records, names: self.names }
-    }
-
-    /// The 21 bytes that every settings record has: TIGHT, OPEN, or anything in range.
-    fn settings(&mut self) -> Vec<u8> {
-        match self.random.weighted(&[(15, Some(settings::TIGHT)), (15, Some(settings::OPEN)), (70, None)]).flatten() {
-            Some(constant) => constant.to_vec(),
-            None => settings::GREATEST[..settings::SIZE].iter().map(|&greatest| self.random.byte(greatest)).collect(),
-        }
     }
 
     /// A size to aim at.

@@ -35,6 +35,24 @@ pub struct Whole<T> {
     pub unlike_display: Option<usize>,
 }
 
+/// A tree of either root, as the Rust module takes it.
+#[derive(Clone, Debug, PartialEq)]
+pub enum Tree {
+    /// A unit.
+    Unit(ast::TranslationUnit),
+    /// An expression.
+    Expr(ast::Expr),
+}
+
+/// Reads the tree of a question. Its settings do not count, and neither does what Display gives.
+pub fn tree(question: &Question) -> Read<Tree> {
+    let Question { root, records, names, .. } = question;
+    match root {
+        Root::Unit => unit(records, names).map(|whole| Tree::Unit(whole.tree)),
+        Root::Expr => expr(records, names).map(|whole| Tree::Expr(whole.tree)),
+    }
+}
+
 /// Reads a unit (root 80).
 pub fn unit(records: &[u8], names: &[u8]) -> Read<Whole<ast::TranslationUnit>> {
     whole(records, names, Reader::unit)
@@ -47,11 +65,7 @@ pub fn expr(records: &[u8], names: &[u8]) -> Read<Whole<ast::Expr>> {
 
 /// Why the records of a question are refused; nothing where they are a tree. Its settings do not count.
 pub fn refusal(question: &Question) -> Option<Refusal> {
-    let Question { root, records, names, .. } = question;
-    match root {
-        Root::Unit => unit(records, names).err(),
-        Root::Expr => expr(records, names).err(),
-    }
+    tree(question).err()
 }
 
 /// Reads one tree that takes all records. Refusals 2 and 3, those of the tree, then 12.

@@ -10,6 +10,7 @@ mod statement;
 mod types;
 
 use crate::joined::Joint;
+use crate::read::Tree;
 use crate::split::split;
 use glsl_lang::ast;
 
@@ -52,6 +53,14 @@ impl Tokens {
     /// Whether some are joined in this way and none in another.
     pub fn are_joined_only_by(&self, joint: Joint) -> bool {
         self.are_joined() && self.joints().all(|other| other == joint)
+    }
+}
+
+/// The tokens of either, for an expression whatever is given of compounds.
+pub fn tree(tree: &Tree, collapse: bool) -> Tokens {
+    match tree {
+        Tree::Unit(tree) => unit(tree, collapse),
+        Tree::Expr(tree) => expr(tree),
     }
 }
 
@@ -121,6 +130,7 @@ impl Writer {
 mod tests {
     use super::*;
     use crate::answer::Root;
+    use crate::split::without_blanks;
     use crate::tree::{all, int, keyword, many, named, plain, rec, var};
     use crate::{grow, print, read, settings};
 
@@ -171,23 +181,17 @@ mod tests {
         assert_eq!(tokens.joints().collect::<Vec<_>>(), [Joint::Binary, Joint::Dot]);
     }
 
-    /// A text without blanks.
-    fn without_blanks(text: &str) -> String {
-        text.split_ascii_whitespace().collect()
-    }
-
     /// Compounds lose their braces or not; blanks are all else that settings change.
     #[test]
     fn grown_trees_have_the_text_of_the_rust_module() {
-        for case in 0..3_000 {
-            let question = grow::rooted(Root::Expr, 1, case);
-            let tree = read::expr(&question.records, &question.names).expect("a good tree").tree;
-            assert_eq!(expr(&tree).text, without_blanks(&print::expr(&tree, &settings::tight())));
-            let question = grow::rooted(Root::Unit, 1, case);
-            let tree = read::unit(&question.records, &question.names).expect("a good tree").tree;
-            let settings = settings::read(&question.settings).expect("good settings").module;
-            let tokens = unit(&tree, settings.collapse_single_item_compound_statements);
-            assert_eq!(tokens.text, without_blanks(&print::unit(&tree, &settings)));
+        for root in [Root::Expr, Root::Unit] {
+            for case in 0..3_000 {
+                let question = grow::rooted(root, 1, case);
+                let whole = read::tree(&question).expect("a good tree");
+                let settings = settings::read(&question.settings).expect("good settings").module;
+                let tokens = tree(&whole, settings.collapse_single_item_compound_statements);
+                assert!(without_blanks(&print::tree(&whole, &settings)).eq(tokens.text.bytes()), "{}", tokens.text);
+            }
         }
     }
 }

@@ -28,11 +28,15 @@
 //! also leaves out minus over `--a`, which is then printed as `---a`, plus over `++a`, and a field of an IntConst, `1.lf`.
 //!
 //! With neither ([`TIGHT`]) signs can meet: `n - --k` is printed as `n---k`, which is read as `n-- - k`. [`joined`] tells beforehand
-//! whether signs meet somewhere, or a dot and a whole number; that such texts are read as they were meant otherwise is not proved.
+//! whether signs meet somewhere, or a dot and a whole number. Where it answers no the text of a sound expression is read as that
+//! expression and as no other under any settings, [`TIGHT`] among them; that is proved as well.
 //!
-//! Of units nothing is promised but their text, in which every expression has its spaces: an `if` without an `else` that is the first
-//! statement of an `if` with one takes that `else` when it is read, under any settings. docs/READING.md and docs/DIFFERENCES.md of
-//! the repository say more.
+//! Settings are only layout: but for byte 15, which leaves out the braces of single statements, the texts of one tree under two of them
+//! differ in spaces, tabs and newlines alone (docs/LAYOUT.md of the repository). Proved.
+//!
+//! Of units it is promised what their text is and, with byte 21 at 1, that longest match splits it into its tokens. No braces are added:
+//! an `if` without an `else` that is the first statement of an `if` with one takes that `else` when it is read, under any settings.
+//! docs/READING.md, docs/LAYOUT.md and docs/DIFFERENCES.md of the repository say more.
 //!
 //! # Stack
 //!
@@ -147,9 +151,11 @@ pub fn print_expr_growing<'room>(
 ///   over the IntConst -1;
 /// - a Dot stands directly over an IntConst: `1.lf`.
 ///
-/// The two signs, or number and dot, are then read as one token. The needed spaces (settings byte 21, as in [`EXPORT`]) keep all three
-/// sorts apart, and where they are on there is no need to ask; spaces around operators (byte 12) by themselves keep the first sort
-/// apart.
+/// The two signs, or number and dot, are then read as one token, and nothing else in the text can be: longest match, by GLSL's own words,
+/// splits a text under [`TIGHT`] into the expression's tokens exactly where the answer is no.
+///
+/// The needed spaces (settings byte 21, as in [`EXPORT`]) keep all three sorts apart, and where they are on there is no need to ask;
+/// spaces around operators (byte 12) by themselves keep the first sort apart.
 ///
 /// ```
 /// use glsl_print::{joined, record};

@@ -1,49 +1,38 @@
 -- Which bytes may stand right behind a token without making it a longer word, in a wide language or in another (lexis, proofs/Laws). Assumes nothing.
 use mathlib.Core.Path.{_≡_, refl, sym, ap, subst, _∙_}
-use mathlib.Core.Bool.{Bool, true, false, not, _&&_, _||_, cond, and-false}
+use mathlib.Core.Bool.{Bool, true, false, not, _&&_, _||_, and-false}
 use mathlib.Core.List.{List, [], _∷_, _++_}
 use Prim.Native.Nat.{ℕ}
 use Prim.Native.Char.{code}
-use native.Mathlib.Omega.{arith}
 use lib.Dec.{eqb}
 use borrow.Author.Tests.{eqb-true, eqb-false, ne-eqb, not-true}
 use Rattle.words.specs.Bytes.{bytes}
-use Rattle.words.specs.Form.{same, oneOf}
+use Rattle.words.specs.Form.{all, same, oneOf}
 use Rattle.words.specs.Letter.{letter, digit, nameByte}
 use Rattle.words.specs.Symbol.{Symbol, symbolText}
 use Rattle.words.specs.Symbol.Symbol.{dot, inc-op, dec-op, plus, dash, bang, tilde}
 use Rattle.text.specs.Token.{Token, has}
 use Rattle.text.specs.Token.Token.{name, int, uint, float, double, word, symbol}
+use Rattle.text.specs.Visible.{blank}
 use Rattle.text.specs.Tree.{UnaryOp, BinaryOp, AssignmentOp}
 use Rattle.text.specs.Operator.{binary-op, binary-symbol, unary-symbol, assignment-symbol, reads-as-one}
 use Rattle.formed.proofs.Signs.{front, signByte}
 use Rattle.lexis.specs.Division.{begins-with}
-use Rattle.lexis.proofs.Tests.{both}
-use Rattle.lexis.proofs.Symbols.{space-behind}
+use Rattle.lexis.proofs.Tests.{both, either, clash}
+use Rattle.lexis.proofs.Symbols.{no-blank}
 use Rattle.lexis.proofs.Laws.{symbol-lengthens, lengthens}
 
-pub false-true : {A : Type 0} → _≡_ {A = Bool} false true → A
-false-true e = let z : _≡_ {A = ℕ} 0 1 = cc in absurd (omega arith)
-
-pub true-false : {A : Type 0} → _≡_ {A = Bool} true false → A
-true-false e = false-true (sym e)
+-- what a space, a tab and a newline have, every blank has
+pub blank-is : (P : ℕ → Type 0) → P (code " ") → P (code "\t") → P (code "\n") → (b : ℕ) → blank b ≡ true → P b
+blank-is P p q r b h = either (eqb b (code " ") || eqb b (code "\t")) (eqb b (code "\n")) h (λ h. either (eqb b (code " ")) (eqb b (code "\t")) h (is p) (is q)) (is r)
+  where
+    is : {c : ℕ} → P c → eqb b c ≡ true → P b
+    is {c = c} p e = subst P (sym (eqb-true b c e)) p
 
 -- nothing behind t makes it longer
 abbrev pub Clear : (wide : Bool) → Token → List ℕ → Type 0
 Clear wide t [] = Unit
 Clear wide t (b ∷ bs) = lengthens wide t b ≡ false
-
--- a space never does
-pub space-clear : (wide : Bool) (t : Token) → lengthens wide t (code " ") ≡ false
-unfolding lengthens nameByte letter digit
-space-clear wide (name n) = refl
-space-clear wide (Token.type v) = refl
-space-clear wide (int n) = refl
-space-clear wide (uint n) = and-false wide
-space-clear wide (float t) = and-false wide
-space-clear wide (double t) = and-false wide
-space-clear wide (word w) = refl
-space-clear wide (symbol y) = space-behind y
 
 -- what the last token of a text can be; a whole number, or another number, only where `whole` or `other` says so
 abbrev pub Ends : (whole other : Bool) → Token → Type 0
@@ -66,61 +55,56 @@ ends-wider i o (double t) h = refl
 ends-wider i o (word w) h = tt
 ends-wider i o (symbol y) h = h
 
-pub ends-least : (i o : Bool) (t : Token) → Ends false false t → Ends i o t
-ends-least i o (name n) h = tt
-ends-least i o (Token.type v) h = tt
-ends-least i o (int k) h = false-true h
-ends-least i o (uint k) h = false-true h
-ends-least i o (float t) h = false-true h
-ends-least i o (double t) h = false-true h
-ends-least i o (word w) h = tt
-ends-least i o (symbol y) h = h
+-- a byte that is of no name and no point stands clear behind a token, unless this is a symbol that the byte makes longer
+plain-clear : (wide : Bool) (b : ℕ) → nameByte b ≡ false → eqb b (code ".") ≡ false → (t : Token) → ((y : Symbol) → t ≡ symbol y → has b (bytes (symbol-lengthens y)) ≡ false) → lengthens wide t b ≡ false
+unfolding lengthens
+plain-clear wide b h p (name n) k = h
+plain-clear wide b h p (Token.type v) k = h
+plain-clear wide b h p (int n) k = rw (h, p)
+plain-clear wide b h p (uint n) k = rw (h, p) (and-false wide)
+plain-clear wide b h p (float t) k = rw (h, p) (and-false wide)
+plain-clear wide b h p (double t) k = rw (h, p) (and-false wide)
+plain-clear wide b h p (word w) k = h
+plain-clear wide b h p (symbol y) k = k y refl
 
--- a byte that is of no name and no point stands clear behind all of them
+-- so it does behind all that a text can end in
 pub ends-clear : (wide : Bool) (b : ℕ) → nameByte b ≡ false → eqb b (code ".") ≡ false → (i o : Bool) (t : Token) → Ends i o t → lengthens wide t b ≡ false
-unfolding lengthens has
-ends-clear wide b h p i o (name n) e = h
-ends-clear wide b h p i o (Token.type v) e = h
-ends-clear wide b h p i o (int k) e = rw (h, p)
-ends-clear wide b h p i o (uint k) e = rw (h, p) (and-false wide)
-ends-clear wide b h p i o (float t) e = rw (h, p) (and-false wide)
-ends-clear wide b h p i o (double t) e = rw (h, p) (and-false wide)
-ends-clear wide b h p i o (word w) e = h
-ends-clear wide b h p i o (symbol y) e = rw e
+unfolding has
+ends-clear wide b h p i o t e = plain-clear wide b h p t (λ y q. rw (subst (λ (u : Token). Ends i o u) q e) refl)
 
 -- a point stands clear behind what is no whole number, and in a wide language behind what is no number
 pub point-clear : (wide o : Bool) → wide && o ≡ false → (t : Token) → Ends false o t → lengthens wide t (code ".") ≡ false
 unfolding lengthens has nameByte letter digit
 point-clear wide o h (name n) e = refl
 point-clear wide o h (Token.type v) e = refl
-point-clear wide o h (int k) e = false-true e
+point-clear wide o h (int k) e = clash e refl
 point-clear wide o h (uint k) e = subst (λ (o : Bool). wide && o ≡ false) e h
 point-clear wide o h (float t) e = subst (λ (o : Bool). wide && o ≡ false) e h
 point-clear wide o h (double t) e = subst (λ (o : Bool). wide && o ≡ false) e h
 point-clear wide o h (word w) e = refl
 point-clear wide o h (symbol y) e = rw e
 
--- one of these bytes passes the test
-unfoldable pub some-pass : (ℕ → Bool) → List ℕ → Bool
-some-pass f [] = false
-some-pass f (b ∷ bs) = f b || some-pass f bs
-
-either-false : (a b : Bool) → a || b ≡ false → (a ≡ false) × (b ≡ false)
-either-false true b h = false-true (sym h)
-either-false false b h = (refl, h)
+-- none of these bytes passes the test
+abbrev pub none-pass : (ℕ → Bool) → List ℕ → Bool
+none-pass f ks = all (λ k. not (f k)) ks
 
 -- a byte that passes is none of those that don't
-apart : (f : ℕ → Bool) (b : ℕ) (ks : List ℕ) → f b ≡ true → some-pass f ks ≡ false → has b ks ≡ false
-unfolding some-pass has
+apart : (f : ℕ → Bool) (b : ℕ) (ks : List ℕ) → f b ≡ true → none-pass f ks ≡ true → has b ks ≡ false
+unfolding all has
 apart f b [] h n = refl
-apart f b (k ∷ ks) h n = go (eqb k b) refl (apart f b ks h (either-false (f k) (some-pass f ks) n .1))
-  where
-    go : (t : Bool) → eqb k b ≡ t → has b ks ≡ false → cond t true (has b ks) ≡ false
-    go true e i = false-true (sym (either-false (f k) (some-pass f ks) n .0) ∙ ap f (eqb-true k b e) ∙ h)
-    go false e i = i
+apart f b (k ∷ ks) h n =
+    let a = both (not (f k)) (none-pass f ks) n in
+    rw (ne-eqb k b (λ e. clash (ap f e ∙ h) (not-true (f k) (a .0)))) (apart f b ks h (a .1))
+
+-- a blank stands clear behind every token
+pub blank-clear : (wide : Bool) (b : ℕ) → blank b ≡ true → (t : Token) → lengthens wide t b ≡ false
+unfolding nameByte letter digit
+blank-clear wide b h t =
+    plain-clear wide b (blank-is (λ c. nameByte c ≡ false) refl refl refl b h) (blank-is (λ c. eqb c (code ".") ≡ false) refl refl refl b h) t
+    (λ y q. apart blank b (bytes (symbol-lengthens y)) h (no-blank y))
 
 -- a text whose first byte passes stands clear behind a symbol that no such byte makes longer
-pub clear-of : (wide : Bool) (f : ℕ → Bool) (y : Symbol) (bs : List ℕ) → some-pass f (bytes (symbol-lengthens y)) ≡ false → begins-with f bs ≡ true → Clear wide (symbol y) bs
+pub clear-of : (wide : Bool) (f : ℕ → Bool) (y : Symbol) (bs : List ℕ) → none-pass f (bytes (symbol-lengthens y)) ≡ true → begins-with f bs ≡ true → Clear wide (symbol y) bs
 unfolding lengthens
 clear-of wide f y [] n h = tt
 clear-of wide f y (b ∷ bs) n h = apart f b (bytes (symbol-lengthens y)) h n
@@ -133,13 +117,13 @@ never-longer wide y (b ∷ bs) e = rw e
 
 -- a field's name stands clear behind the dot
 pub field-clear : (wide : Bool) (bs : List ℕ) → begins-with (λ b. nameByte b && not (digit b)) bs ≡ true → Clear wide (symbol dot) bs
-unfolding some-pass symbol-lengthens nameByte letter digit
+unfolding all symbol-lengthens nameByte letter digit
 field-clear wide bs h = clear-of wide (λ b. nameByte b && not (digit b)) dot bs refl h
 
 -- An operator before its operand: no byte that an expression can begin with makes it longer, but for the same sign behind a plus or minus.
 
 abbrev Calm : Symbol → Type 0
-Calm y = some-pass front (bytes (symbol-lengthens y)) ≡ false
+Calm y = none-pass front (bytes (symbol-lengthens y)) ≡ true
 
 calm-clear : (wide : Bool) (y : Symbol) → Calm y → (b : ℕ) (bs : List ℕ) → front b ≡ true → Clear wide (symbol y) (b ∷ bs)
 calm-clear wide y n b bs h = clear-of wide front y (b ∷ bs) n h
@@ -147,7 +131,7 @@ calm-clear wide y n b bs h = clear-of wide front y (b ∷ bs) n h
 -- plus and minus are made longer by the same sign c and by `=`: a byte of another sign that an expression can begin with is neither
 sign-clear : (c b : ℕ) → front b ≡ true → (signByte b ≡ c → ⊥) → signByte c ≡ c → has b (c ∷ code "=" ∷ []) ≡ false
 unfolding has nameByte letter digit
-sign-clear c b f h k = rw (ne-eqb c b (λ e. h (ap signByte (sym e) ∙ k)), ne-eqb (code "=") b (λ e. false-true (ap front e ∙ f))) refl
+sign-clear c b f h k = rw (ne-eqb c b (λ e. h (ap signByte (sym e) ∙ k)), ne-eqb (code "=") b (λ e. clash (ap front e ∙ f) refl)) refl
 
 -- where the two do not read as one, the byte has another sign
 other-sign : (c s b : ℕ) → eqb c s ≡ false → signByte b ≡ s → signByte b ≡ c → ⊥
@@ -174,7 +158,7 @@ module _ (wide : Bool) (s b : ℕ) (bs : List ℕ) (f : front b ≡ true) (e : s
   calm-behind y n j = calm-clear wide y n b bs f
 
   pub unary-behind : (op : UnaryOp) → Behind (unary-symbol op)
-  unfolding unary-symbol some-pass symbol-lengthens has nameByte letter digit
+  unfolding unary-symbol all symbol-lengthens has nameByte letter digit
   unary-behind UnaryOp.Inc = calm-behind inc-op refl
   unary-behind UnaryOp.Dec = calm-behind dec-op refl
   unary-behind UnaryOp.Add = plus-behind
@@ -183,7 +167,7 @@ module _ (wide : Bool) (s b : ℕ) (bs : List ℕ) (f : front b ≡ true) (e : s
   unary-behind UnaryOp.Complement = calm-behind tilde refl
 
   pub binary-behind : (op : BinaryOp) → Behind (binary-symbol op)
-  unfolding binary-op some-pass symbol-lengthens has nameByte letter digit
+  unfolding binary-op all symbol-lengthens has nameByte letter digit
   binary-behind BinaryOp.Or = calm-behind (binary-symbol BinaryOp.Or) refl
   binary-behind BinaryOp.Xor = calm-behind (binary-symbol BinaryOp.Xor) refl
   binary-behind BinaryOp.And = calm-behind (binary-symbol BinaryOp.And) refl
@@ -205,7 +189,7 @@ module _ (wide : Bool) (s b : ℕ) (bs : List ℕ) (f : front b ≡ true) (e : s
   binary-behind BinaryOp.Mod = calm-behind (binary-symbol BinaryOp.Mod) refl
 
 assignment-calm : (op : AssignmentOp) → Calm (assignment-symbol op)
-unfolding assignment-symbol some-pass symbol-lengthens has nameByte letter digit
+unfolding assignment-symbol all symbol-lengthens has nameByte letter digit
 assignment-calm AssignmentOp.Equal = refl
 assignment-calm AssignmentOp.Mult = refl
 assignment-calm AssignmentOp.Div = refl

@@ -1,0 +1,14 @@
+pub mod Tokens
+pub mod Clear
+pub mod Blank
+pub mod Parts
+pub mod Follow
+pub mod Kept
+pub mod Divided
+pub mod Units
+pub mod Admitted
+pub mod Cut
+pub mod Told
+pub mod UnitsTold
+pub mod Records
+pub mod Exact
