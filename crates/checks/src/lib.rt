@@ -55,7 +55,8 @@ fn answer_of(o: Checked) -> i64
 pub extern "C" fn accept_unit(records: &[u8], names: &[u8]) -> i64
     ensures { λ r. ⌜ r ≡ answer (check (now (records .entry)) (now (names .entry)) Class.unit) ⌝ }
 {
-    answer_of(walk::check_unit(records, names))
+    let words = word_table::table();
+    answer_of(walk::check_unit(&words, records, names))
 }
 
 // The record check of an expression.
@@ -63,5 +64,6 @@ pub extern "C" fn accept_unit(records: &[u8], names: &[u8]) -> i64
 pub extern "C" fn accept_expr(records: &[u8], names: &[u8]) -> i64
     ensures { λ r. ⌜ r ≡ answer (check (now (records .entry)) (now (names .entry)) Class.expr) ⌝ }
 {
-    answer_of(walk::check_expr(records, names))
+    let words = word_table::table();
+    answer_of(walk::check_expr(&words, records, names))
 }

@@ -79,23 +79,23 @@ fn copy_text(room: &mut [u8], text: &[u8])
 fn put_by(
     root: Root,
     s: Settings,
+    t: &Words,
     records: &[u8],
     names: &[u8],
     draft: &mut [u8],
     room: &mut [u8],
 ) -> Fit
-    requires { ⌜ Free s (rootCommands root s (now records) (now names)) start ⌝ }
+    requires { ⌜ (now t ≡ Table.table) × (Free s (rootCommands root s (now records) (now names)) start) ⌝ }
     ensures { λ r. ⌜ Puts (text s (rootCommands root s (now (records .entry)) (now (names .entry))) fresh) (now (room .entry)) (now (room .exit)) r ⌝ }
 {
-    let t = word_table::table();
     let pen = start(s);
-    let drafted = show_root(root, s, &t, records, names, draft, pen);
+    let drafted = show_root(root, s, t, records, names, draft, pen);
     let n = drafted.at as usize;
     if room.len() < n {
         return Fit::TooLong(n);
     }
     if draft.len() < n {
-        show_root(root, s, &t, records, names, room, pen);
+        show_root(root, s, t, records, names, room, pen);
         return Fit::Written(n);
     }
     copy_text(room, &draft[..n]);
@@ -103,14 +103,14 @@ fn put_by(
 }
 
 // The text in the room, where it fits, by a draft on the stack.
-pub fn put(root: Root, s: Settings, records: &[u8], names: &[u8], room: &mut [u8]) -> Fit
-    requires { ⌜ Free s (rootCommands root s (now records) (now names)) start ⌝ }
+pub fn put(root: Root, s: Settings, t: &Words, records: &[u8], names: &[u8], room: &mut [u8]) -> Fit
+    requires { ⌜ (now t ≡ Table.table) × (Free s (rootCommands root s (now records) (now names)) start) ⌝ }
     ensures { λ r. ⌜ Puts (text s (rootCommands root s (now (records .entry)) (now (names .entry))) fresh) (now (room .entry)) (now (room .exit)) r ⌝ }
 {
     if records.len() <= SMALL_TREE {
         let mut short = [0u8; SHORT];
-        return put_by(root, s, records, names, &mut short, room);
+        return put_by(root, s, t, records, names, &mut short, room);
     }
     let mut long = [0u8; LONG];
-    put_by(root, s, records, names, &mut long, room)
+    put_by(root, s, t, records, names, &mut long, room)
 }

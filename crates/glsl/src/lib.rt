@@ -1,6 +1,7 @@
 // The public calls (01, "Calls"), and the C functions over them. (The call that hands out a name is `records::name`.)
 ghost use mathlib.Core.Path.{_≡_};
 ghost use Prim.Native.Nat.{_<_, _^_};
+ghost use Rattle.word_table.specs.Table as WordTable;
 ghost use Rattle.accept.specs.Check.{check};
 ghost use Rattle.text.specs.Whole.{unitText, exprText};
 ghost use Rattle.glsl.specs.Root.{rootClass, rootText, writtenLength, value, printOutcome};
@@ -12,6 +13,7 @@ use draft::Fit;
 use draft::Root;
 use settings::Settings;
 use settings::SettingsRead;
+use word_table::rows::Words;
 
 // The answer of a print: the length of its text, or the refusal with its place. specs/Printed.antt gives 01's number of each case.
 pub enum Printed {
@@ -20,28 +22,33 @@ pub enum Printed {
 }
 
 // The record check of what is printed.
-fn check_root(root: Root, records: &[u8], names: &[u8]) -> Checked
+fn check_root(root: Root, words: &Words, records: &[u8], names: &[u8]) -> Checked
+    requires { ⌜ now words ≡ WordTable.table ⌝ }
     ensures { λ r. ⌜ r ≡ check (now (records .entry)) (now (names .entry)) (rootClass root) ⌝ }
 {
     match root {
-        Root::Unit => walk::check_unit(records, names),
-        Root::Expr => walk::check_expr(records, names),
+        Root::Unit => walk::check_unit(words, records, names),
+        Root::Expr => walk::check_expr(words, records, names),
     }
 }
 
 // The text is at the front of the room, or nothing is altered. A text that is too long for the room is the last refusal, and the length that it needs is its place.
+// The table of words is made here, once, for the check and for the printers: to make it takes longer than to print the least unit.
 fn print_into(root: Root, settings: &[u8], records: &[u8], names: &[u8], room: &mut [u8]) -> Printed
     ensures { λ r. ⌜ Prints (printOutcome root (now (settings .entry)) (now (records .entry)) (now (names .entry)) (now (room .entry))) (rootText root (now (settings .entry)) (now (records .entry)) (now (names .entry))) (now (room .entry)) (now (room .exit)) r ⌝ }
 {
     match Settings::read(settings) {
         SettingsRead::Refused => Printed::Refused(Refusal::SettingsOutOfRange, 0),
-        SettingsRead::Read(s) => match check_root(root, records, names) {
-            Checked::Refused(x, p) => Printed::Refused(x, p),
-            Checked::Next(_) => match draft::put(root, s, records, names, room) {
-                Fit::Written(length) => Printed::Text(length),
-                Fit::TooLong(length) => Printed::Refused(Refusal::RoomTooSmall, length),
-            },
-        },
+        SettingsRead::Read(s) => {
+            let words = word_table::table();
+            match check_root(root, &words, records, names) {
+                Checked::Refused(x, p) => Printed::Refused(x, p),
+                Checked::Next(_) => match draft::put(root, s, &words, records, names, room) {
+                    Fit::Written(length) => Printed::Text(length),
+                    Fit::TooLong(length) => Printed::Refused(Refusal::RoomTooSmall, length),
+                },
+            }
+        }
     }
 }
 
@@ -191,7 +198,8 @@ pub enum Whether {
 pub fn joined(records: &[u8], names: &[u8]) -> Whether
     ensures { λ r. ⌜ Answers (now (records .entry)) (now (names .entry)) r ⌝ }
 {
-    match walk::check_expr(records, names) {
+    let words = word_table::table();
+    match walk::check_expr(&words, records, names) {
         Checked::Refused(x, p) => Whether::Refused(x, p),
         Checked::Next(_) => {
             if joined::any_joined(records) {

@@ -1,5 +1,6 @@
 // The record check: whatever bytes come, they are the tree that a root asks for, or there is one numbered refusal at one place.
-// Crate accept tests a record by itself; here the records are walked, in preorder. Both go by the table of crate shapes, which is made once and lent down.
+// Crate accept tests a record by itself; here the records are walked, in preorder. Both go by the table of crate shapes, which is made once and lent down, and by the
+// table of words, which the caller lends: a print goes on with it.
 ghost use mathlib.Core.Path.{_≡_};
 ghost use Rattle.word_table.specs.Table as WordTable;
 ghost use Rattle.shapes.specs.Class.{Class};
@@ -118,7 +119,8 @@ fn records_out_of_size(records: &[u8]) -> bool
 }
 
 // The whole, for a root of class c.
-fn check(records: &[u8], names: &[u8], c: u8) -> Checked
+fn check(words: &Words, records: &[u8], names: &[u8], c: u8) -> Checked
+    requires { ⌜ now words ≡ WordTable.table ⌝ }
     ensures { λ r. ⌜ r ≡ Check.check (now (records .entry)) (now (names .entry)) (ShapeTable.classOf c) ⌝ }
 {
     if records_out_of_size(records) {
@@ -128,8 +130,7 @@ fn check(records: &[u8], names: &[u8], c: u8) -> Checked
         return Checked::Refused(Refusal::NamesOutOfSize, 0);
     }
     let t = shapes::table();
-    let words = word_table::table();
-    match node(&t, &words, records, names, 0, c, DEEPEST) {
+    match node(&t, words, records, names, 0, c, DEEPEST) {
         Checked::Next(next) => {
             if next == records::whole_records(records) {
                 return Checked::Next(next);
@@ -141,15 +142,17 @@ fn check(records: &[u8], names: &[u8], c: u8) -> Checked
 }
 
 // Are the records a unit? Its root is of kind 80.
-pub fn check_unit(records: &[u8], names: &[u8]) -> Checked
+pub fn check_unit(words: &Words, records: &[u8], names: &[u8]) -> Checked
+    requires { ⌜ now words ≡ WordTable.table ⌝ }
     ensures { λ r. ⌜ r ≡ Check.check (now (records .entry)) (now (names .entry)) Class.unit ⌝ }
 {
-    check(records, names, UNIT)
+    check(words, records, names, UNIT)
 }
 
 // Are the records an expression? Its root is of kind 1 to 16.
-pub fn check_expr(records: &[u8], names: &[u8]) -> Checked
+pub fn check_expr(words: &Words, records: &[u8], names: &[u8]) -> Checked
+    requires { ⌜ now words ≡ WordTable.table ⌝ }
     ensures { λ r. ⌜ r ≡ Check.check (now (records .entry)) (now (names .entry)) Class.expr ⌝ }
 {
-    check(records, names, EXPR)
+    check(words, records, names, EXPR)
 }

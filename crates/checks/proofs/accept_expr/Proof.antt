@@ -13,12 +13,15 @@ use borrow.Author.Needs.{needs}
 use Rattle.checks.proofs.accept_expr.Statement.{statement}
 use Rattle.checks.proofs.accept_expr.Tie as tie
 
+table-requires : tie.Need-table-requires
+table-requires c κs = search needs
+
 check-expr-requires : tie.Need-check-expr-requires
 check-expr-requires c κs = search needs
 
 answer-of-requires : tie.Need-answer-of-requires
 answer-of-requires c κs =
-    let h = subst (λ (o : Checked). checkedPlace o ≤ most-records) (sym (c .check-expr .ensures)) (place-small (c .before .before .before .args .records .now) (c .before .before .before .args .names .now) Class.expr) in
+    let h = subst (λ (o : Checked). checkedPlace o ≤ most-records) (sym (c .check-expr .ensures)) (place-small (c .before .before .before .before .before .args .records .now) (c .before .before .before .before .before .args .names .now) Class.expr) in
     omega arith
 
 returns : tie.Need-returns
@@ -26,4 +29,4 @@ returns c =
     toZ-ofZ (record { sfits = c .answer-of .ok }) ∙ c .answer-of .ensures ∙ ap answer (c .before .check-expr .ensures)
 
 pub accept-expr-spec : {M : Type 1} → statement M
-accept-expr-spec = tie.close (tie.spec check-expr-requires answer-of-requires returns)
+accept-expr-spec = tie.close (tie.spec table-requires check-expr-requires answer-of-requires returns)

@@ -8,9 +8,6 @@ use borrow.Author.Needs.{needs}
 use Rattle.draft.proofs.put_by.Statement.{statement}
 use Rattle.draft.proofs.put_by.Tie as tie
 
-table-requires : tie.Need-table-requires
-table-requires c κs = search needs
-
 start-requires : tie.Need-start-requires
 start-requires c κs = search needs
 
@@ -25,8 +22,8 @@ same-length c = search needs
 
 returns : tie.Need-returns
 returns c =
-    let a = c .before .before .before .before .before .before .before .before .before .before .before .before .before .args in
-    not-put (rootShow (a .root) (a .s)) (rootReader (a .root)) (a .s) (a .records .now) (a .names .now) (c .before .before .before .before .before .before .before .before .before .before .before .before .before .pre) (a .room .now) (c .before .before .before .before .before .before .before .start .ensures) (c .before .before .before .before .show-root .ensures) (omega (arith, c .if1 .taken))
+    let a = c .before .before .before .before .before .before .before .before .before .before .before .args in
+    not-put (rootShow (a .root) (a .s)) (rootReader (a .root)) (a .s) (a .records .now) (a .names .now) (c .before .before .before .before .before .before .before .before .before .before .before .pre .1) (a .room .now) (c .before .before .before .before .before .before .start .ensures) (c .before .before .before .before .show-root .ensures) (omega (arith, c .if1 .taken))
 
 show-root-requires-2 : tie.Need-show-root-requires-2
 show-root-requires-2 c κs = search needs
@@ -39,8 +36,8 @@ same-length-3 c = search needs
 
 returns-2 : tie.Need-returns-2
 returns-2 c =
-    let a = c .before .before .before .before .before .before .before .before .before .before .before .before .before .before .before .before .before .before .before .args in
-    rewritten (rootShow (a .root) (a .s)) (rootReader (a .root)) (a .s) (a .records .now) (a .names .now) (c .before .before .before .before .before .before .before .before .before .before .before .before .before .before .before .before .before .before .before .pre) (a .room .now) (c .before .before .before .before .before .before .before .before .before .before .before .before .before .start .ensures) (c .before .before .before .before .before .before .before .before .before .before .show-root .ensures) (omega (arith, c .before .before .before .before .before .before .if1 .left)) (c .before .before .show-root2 .ensures)
+    let a = c .before .before .before .before .before .before .before .before .before .before .before .before .before .before .before .before .args in
+    rewritten (rootShow (a .root) (a .s)) (rootReader (a .root)) (a .s) (a .records .now) (a .names .now) (c .before .before .before .before .before .before .before .before .before .before .before .before .before .before .before .before .pre .1) (a .room .now) (c .before .before .before .before .before .before .before .before .before .before .before .start .ensures) (c .before .before .before .before .before .before .before .before .before .show-root .ensures) (omega (arith, c .before .before .before .before .before .if1 .left)) (c .before .before .show-root2 .ensures)
 
 slice-reshare-prefix-copy-text : tie.Need-slice-reshare-prefix-copy-text
 slice-reshare-prefix-copy-text c = search needs
@@ -59,14 +56,13 @@ same-length-5 c = search needs
 
 returns-3 : tie.Need-returns-3
 returns-3 c =
-    let a = c .before .before .before .before .before .before .before .before .before .before .before .before .before .before .before .before .before .before .before .args in
-    copied (rootShow (a .root) (a .s)) (rootReader (a .root)) (a .s) (a .records .now) (a .names .now) (c .before .before .before .before .before .before .before .before .before .before .before .before .before .before .before .before .before .before .before .pre) (a .room .now) (c .before .before .before .before .before .before .before .before .before .before .before .before .before .start .ensures) (c .before .before .before .before .before .before .before .before .before .before .show-root .ensures) (omega (arith, c .before .before .before .before .before .before .if1 .left)) (omega (arith, c .before .before .before .before .before .if2 .left)) (c .before .before .copy-text .ensures)
+    let a = c .before .before .before .before .before .before .before .before .before .before .before .before .before .before .before .before .before .args in
+    copied (rootShow (a .root) (a .s)) (rootReader (a .root)) (a .s) (a .records .now) (a .names .now) (c .before .before .before .before .before .before .before .before .before .before .before .before .before .before .before .before .before .pre .1) (a .room .now) (c .before .before .before .before .before .before .before .before .before .before .before .before .start .ensures) (c .before .before .before .before .before .before .before .before .before .before .show-root .ensures) (omega (arith, c .before .before .before .before .before .before .if1 .left)) (omega (arith, c .before .before .before .before .before .if2 .left)) (c .before .before .copy-text .ensures)
 
 pub put-by-spec : {M : Type 1} → statement M
 put-by-spec =
     tie.close
     (tie.spec
-    table-requires
     start-requires
     show-root-requires
     cast-n

@@ -7,6 +7,9 @@ use borrow.Author.Needs.{needs}
 use Rattle.glsl.proofs.joined.Statement.{statement}
 use Rattle.glsl.proofs.joined.Tie as tie
 
+table-requires : tie.Need-table-requires
+table-requires c κs = search needs
+
 check-expr-requires : tie.Need-check-expr-requires
 check-expr-requires c κs = search needs
 
@@ -20,18 +23,19 @@ any-joined-requires : tie.Need-any-joined-requires
 any-joined-requires c κs = search needs
 
 returns : tie.Need-returns
-returns c = answers _ _ _ (sym (question-refused (c .before .before .before .before .before .before .args .records .now) (c .before .before .before .before .before .before .args .names .now) _ _ (sym (c .before .before .before .check-expr .ensures) ∙ c .before .x .given .1)))
+returns c = answers _ _ _ (sym (question-refused (c .before .before .before .before .before .before .before .before .args .records .now) (c .before .before .before .before .before .before .before .before .args .names .now) _ _ (sym (c .before .before .before .check-expr .ensures) ∙ c .before .x .given .1)))
 
 returns-2 : tie.Need-returns-2
-returns-2 c = answers _ _ _ (sym (question-answered (c .before .before .before .before .before .before .before .args .records .now) (c .before .before .before .before .before .before .before .args .names .now) (λ p. omega (arith, c .before .before .before .before .before .before .shared-slice-known .given p)) _ (sym (c .before .before .before .before .check-expr .ensures) ∙ c .before .before .enum-told .given .1) true (c .before .any-joined .ensures) (c .if1 .taken)))
+returns-2 c = answers _ _ _ (sym (question-answered (c .before .before .before .before .before .before .before .before .before .args .records .now) (c .before .before .before .before .before .before .before .before .before .args .names .now) (λ p. omega (arith, c .before .before .before .before .before .before .before .before .shared-slice-known .given p)) _ (sym (c .before .before .before .before .check-expr .ensures) ∙ c .before .before .enum-told .given .1) true (c .before .any-joined .ensures) (c .if1 .taken)))
 
 returns-3 : tie.Need-returns-3
-returns-3 c = answers _ _ _ (sym (question-answered (c .before .before .before .before .before .before .before .args .records .now) (c .before .before .before .before .before .before .before .args .names .now) (λ p. omega (arith, c .before .before .before .before .before .before .shared-slice-known .given p)) _ (sym (c .before .before .before .before .check-expr .ensures) ∙ c .before .before .enum-told .given .1) false (c .before .any-joined .ensures) (c .if1 .left)))
+returns-3 c = answers _ _ _ (sym (question-answered (c .before .before .before .before .before .before .before .before .before .args .records .now) (c .before .before .before .before .before .before .before .before .before .args .names .now) (λ p. omega (arith, c .before .before .before .before .before .before .before .before .shared-slice-known .given p)) _ (sym (c .before .before .before .before .check-expr .ensures) ∙ c .before .before .enum-told .given .1) false (c .before .any-joined .ensures) (c .if1 .left)))
 
 pub joined-spec : {M : Type 1} → statement M
 joined-spec =
     tie.close
     (tie.spec
+    table-requires
     check-expr-requires
     enum-known-x
     enum-told

@@ -21,6 +21,9 @@ enum-told c = search needs
 enum-known-s : tie.Need-enum-known-s
 enum-known-s c = search needs
 
+table-requires : tie.Need-table-requires
+table-requires c κs = search needs
+
 check-root-requires : tie.Need-check-root-requires
 check-root-requires c κs = search needs
 
@@ -32,8 +35,8 @@ enum-told-2 c = search needs
 
 put-requires : tie.Need-put-requires
 put-requires c κs =
-    let a = c .before .before .before .before .before .before .before .before .before .before .before .before .args in
-    never-stops (a .root) (a .settings .now) (a .records .now) (a .names .now) _ (sym (c .before .before .before .before .before .before .before .read .ensures .answered) ∙ c .before .before .before .before .before .s .given .1) _ (sym (c .before .before .before .check-root .ensures) ∙ c .before .enum-told2 .given .1) (λ p. omega (arith, c .before .before .before .before .before .before .before .before .before .before .shared-slice-known2 .given p))
+    let a = c .before .before .before .before .before .before .before .before .before .before .before .before .before .before .before .args in
+    (c .before .before .before .before .before .before .table .ensures, never-stops (a .root) (a .settings .now) (a .records .now) (a .names .now) _ (sym (c .before .before .before .before .before .before .before .before .before .before .read .ensures .answered) ∙ c .before .before .before .before .before .before .before .before .s .given .1) _ (sym (c .before .before .before .before .check-root .ensures) ∙ c .before .before .enum-told2 .given .1) (λ p. omega (arith, c .before .before .before .before .before .before .before .before .before .before .before .before .before .shared-slice-known2 .given p)))
 
 returns : tie.Need-returns
 returns c =
@@ -42,8 +45,8 @@ returns c =
 
 returns-2 : tie.Need-returns-2
 returns-2 c =
-    let a = c .before .before .before .before .before .before .before .before .before .before .before .before .args in
-    refused _ _ (check-refused (readSettings (a .settings .now)) (check (a .records .now) (a .names .now) (rootClass (a .root))) (rootText (a .root) (a .settings .now) (a .records .now) (a .names .now)) (a .room .now) _ _ _ (sym (c .before .before .before .before .before .before .before .read .ensures .answered) ∙ c .before .before .before .before .before .s .given .1) (sym (c .before .before .before .check-root .ensures) ∙ c .before .x .given .1)) refl
+    let a = c .before .before .before .before .before .before .before .before .before .before .before .before .before .before .args in
+    refused _ _ (check-refused (readSettings (a .settings .now)) (check (a .records .now) (a .names .now) (rootClass (a .root))) (rootText (a .root) (a .settings .now) (a .records .now) (a .names .now)) (a .room .now) _ _ _ (sym (c .before .before .before .before .before .before .before .before .before .read .ensures .answered) ∙ c .before .before .before .before .before .before .before .s .given .1) (sym (c .before .before .before .check-root .ensures) ∙ c .before .x .given .1)) refl
 
 enum-known-length : tie.Need-enum-known-length
 enum-known-length c = search needs
@@ -56,9 +59,9 @@ same-length c = search needs
 
 returns-3 : tie.Need-returns-3
 returns-3 c =
-    let a = c .before .before .before .before .before .before .before .before .before .before .before .before .before .before .before .before .before .before .args in
-    let read = sym (c .before .before .before .before .before .before .before .before .before .before .before .before .before .read .ensures .answered) ∙ c .before .before .before .before .before .before .before .before .before .before .before .s .given .1 in
-    accepted-put (readSettings (a .settings .now)) (check (a .records .now) (a .names .now) (rootClass (a .root))) (rootText (a .root) (a .settings .now) (a .records .now) (a .names .now)) (a .room .now) _ _ (c .before .before .before .before .before .put .result) (Written _) read (sym (c .before .before .before .before .before .before .before .before .before .check-root .ensures) ∙ c .before .before .before .before .before .before .before .enum-told2 .given .1)
+    let a = c .before .before .before .before .before .before .before .before .before .before .before .before .before .before .before .before .before .before .before .before .before .args in
+    let read = sym (c .before .before .before .before .before .before .before .before .before .before .before .before .before .before .before .before .read .ensures .answered) ∙ c .before .before .before .before .before .before .before .before .before .before .before .before .before .before .s .given .1 in
+    accepted-put (readSettings (a .settings .now)) (check (a .records .now) (a .names .now) (rootClass (a .root))) (rootText (a .root) (a .settings .now) (a .records .now) (a .names .now)) (a .room .now) _ _ (c .before .before .before .before .before .put .result) (Written _) read (sym (c .before .before .before .before .before .before .before .before .before .before .check-root .ensures) ∙ c .before .before .before .before .before .before .before .before .enum-told2 .given .1)
     (root-text (a .root) (a .settings .now) (a .records .now) (a .names .now) _ read) (c .before .before .before .before .before .put .ensures) (c .before .length .given .1)
 
 same-length-2 : tie.Need-same-length-2
@@ -66,9 +69,9 @@ same-length-2 c = search needs
 
 returns-4 : tie.Need-returns-4
 returns-4 c =
-    let a = c .before .before .before .before .before .before .before .before .before .before .before .before .before .before .before .before .before .before .args in
-    let read = sym (c .before .before .before .before .before .before .before .before .before .before .before .before .before .read .ensures .answered) ∙ c .before .before .before .before .before .before .before .before .before .before .before .s .given .1 in
-    accepted-put (readSettings (a .settings .now)) (check (a .records .now) (a .names .now) (rootClass (a .root))) (rootText (a .root) (a .settings .now) (a .records .now) (a .names .now)) (a .room .now) _ _ (c .before .before .before .before .before .put .result) (TooLong _) read (sym (c .before .before .before .before .before .before .before .before .before .check-root .ensures) ∙ c .before .before .before .before .before .before .before .enum-told2 .given .1)
+    let a = c .before .before .before .before .before .before .before .before .before .before .before .before .before .before .before .before .before .before .before .before .before .args in
+    let read = sym (c .before .before .before .before .before .before .before .before .before .before .before .before .before .before .before .before .read .ensures .answered) ∙ c .before .before .before .before .before .before .before .before .before .before .before .before .before .before .s .given .1 in
+    accepted-put (readSettings (a .settings .now)) (check (a .records .now) (a .names .now) (rootClass (a .root))) (rootText (a .root) (a .settings .now) (a .records .now) (a .names .now)) (a .room .now) _ _ (c .before .before .before .before .before .put .result) (TooLong _) read (sym (c .before .before .before .before .before .before .before .before .before .before .check-root .ensures) ∙ c .before .before .before .before .before .before .before .before .enum-told2 .given .1)
     (root-text (a .root) (a .settings .now) (a .records .now) (a .names .now) _ read) (c .before .before .before .before .before .put .ensures) (c .before .length2 .given .1)
 
 pub print-into-spec : {M : Type 1} → statement M
@@ -78,6 +81,7 @@ print-into-spec =
     read-requires
     enum-told
     enum-known-s
+    table-requires
     check-root-requires
     enum-known-x
     enum-told-2

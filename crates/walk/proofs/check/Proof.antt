@@ -19,9 +19,6 @@ returns-2 c = simp (← c .before .before .records-out-of-size .ensures, c .befo
 table-requires : tie.Need-table-requires
 table-requires c κs = search needs
 
-table-requires-2 : tie.Need-table-requires-2
-table-requires-2 c κs = search needs
-
 node-requires : tie.Need-node-requires
 node-requires c κs = search needs
 
@@ -33,18 +30,18 @@ whole-records-requires c κs = search needs
 
 returns-3 : tie.Need-returns-3
 unfolding check
-returns-3 c = simp (← c .before .before .before .before .before .before .before .before .before .before .before .before .records-out-of-size .ensures, c .before .before .before .before .before .before .before .before .before .before .before .if1 .left, le-ltb _ _ (c .before .before .before .before .before .before .before .before .before .before .if2 .left), ← c .before .before .before .before .before .node .ensures, c .before .before .before .next .given .1, ← c .before .whole-records .ensures, eq-eqb _ _ (c .if3 .taken))
+returns-3 c = simp (← c .before .before .before .before .before .before .before .before .before .before .records-out-of-size .ensures, c .before .before .before .before .before .before .before .before .before .if1 .left, le-ltb _ _ (c .before .before .before .before .before .before .before .before .if2 .left), ← c .before .before .before .before .before .node .ensures, c .before .before .before .next .given .1, ← c .before .whole-records .ensures, eq-eqb _ _ (c .if3 .taken))
 
 enum-known-x : tie.Need-enum-known-x
 enum-known-x c = search needs
 
 returns-4 : tie.Need-returns-4
 unfolding check
-returns-4 c = simp (← c .before .before .before .before .before .before .before .before .before .before .before .before .records-out-of-size .ensures, c .before .before .before .before .before .before .before .before .before .before .before .if1 .left, le-ltb _ _ (c .before .before .before .before .before .before .before .before .before .before .if2 .left), ← c .before .before .before .before .before .node .ensures, c .before .before .before .next .given .1, ← c .before .whole-records .ensures, ne-eqb _ _ (c .if3 .left))
+returns-4 c = simp (← c .before .before .before .before .before .before .before .before .before .before .records-out-of-size .ensures, c .before .before .before .before .before .before .before .before .before .if1 .left, le-ltb _ _ (c .before .before .before .before .before .before .before .before .if2 .left), ← c .before .before .before .before .before .node .ensures, c .before .before .before .next .given .1, ← c .before .whole-records .ensures, ne-eqb _ _ (c .if3 .left))
 
 returns-5 : tie.Need-returns-5
 unfolding check
-returns-5 c = simp (← c .before .before .before .before .before .before .before .before .before .before .records-out-of-size .ensures, c .before .before .before .before .before .before .before .before .before .if1 .left, le-ltb _ _ (c .before .before .before .before .before .before .before .before .if2 .left), ← c .before .before .before .node .ensures, c .before .x .given .1)
+returns-5 c = simp (← c .before .before .before .before .before .before .before .before .records-out-of-size .ensures, c .before .before .before .before .before .before .before .if1 .left, le-ltb _ _ (c .before .before .before .before .before .before .if2 .left), ← c .before .before .before .node .ensures, c .before .x .given .1)
 
 pub check-spec : {M : Type 1} → statement M
 check-spec =
@@ -54,7 +51,6 @@ check-spec =
     returns
     returns-2
     table-requires
-    table-requires-2
     node-requires
     enum-known-next
     whole-records-requires
