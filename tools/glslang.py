@@ -1,14 +1,17 @@
 #!/usr/bin/env python3
 """glslang.py [SEED [CASES]]: asks an outside reader, glslangValidator, how it reads what the program `print` (crates/print) writes. Without arguments: 1 and 5000.
 
-Outside the gate: it needs Debian's glslang-tools besides the kit. Two parts, with so many expressions each, grown from the seed alone:
+Outside the gate: it needs Debian's glslang-tools besides the kit. Three parts; the first two have so many expressions each, grown from the seed alone:
 
     sound   any sound expressions (document 01); glslang must find no syntax error. It checks types and names too, and these are of no type: such errors are counted.
     typed   sound expressions over int and bool; they must compile, and the tree that glslang shows must be the tree that was grown.
+    types   a uniform of each type word but void (document 01; document 02, #102); they must compile, and glslang must show each with its type. Words that stay names
+            (some of Vulkan's, and two that the Rust module misspells) are names of uniforms there.
 
-They stand in the main functions of units, which are printed under OPEN and two other settings with spaces around binary operators. Then each part comes again, with
-settings that ask for needed spaces (byte 21; document 02, #106): EXPORT, OPEN with that byte, and two others. There minus over Dec, plus over Inc and Dot over an
-IntConst are sound too. Each part first tries a case that must fail. Ends with 1 if anything failed, 2 if there is no glslangValidator."""
+Expressions stand in the main functions of units, which are printed under OPEN and two other settings with spaces around binary operators. Then these two parts come
+again, with settings that ask for needed spaces (byte 21; document 02, #106): EXPORT, OPEN with that byte, and two others. There minus over Dec, plus over Inc and Dot
+over an IntConst are sound too. The uniforms are printed in OPEN, TIGHT and EXPORT. Each part first tries a case that must fail. Ends with 1 if anything failed, 2 if
+there is no glslangValidator."""
 import collections
 import os
 import random
@@ -38,11 +41,15 @@ ADD, SUBTRACT = 14, 15
 # Unary operators over one another that are sound only with needed spaces.
 ONLY_SPACED = {(MINUS, DEC), (PLUS, INC)}
 
-TYPE_WORDS = (
-    "void bool int uint float double vec2 vec3 vec4 dvec2 dvec3 dvec4 bvec2 bvec3 bvec4 ivec2 ivec3 ivec4 uvec2 uvec3 uvec4 mat2 mat3 mat4 mat2x2 mat2x3 mat2x4 "
-    "mat3x2 mat3x3 mat3x4 mat4x2 mat4x3 mat4x4 dmat2 dmat3 dmat4 dmat2x2 dmat2x3 dmat2x4 dmat3x2 dmat3x3 dmat3x4 dmat4x2 dmat4x3 dmat4x4 "
-    "sampler2D sampler3D samplerCube sampler2DShadow sampler2DArray atomic_uint"
-).split()
+
+def type_words():
+    """The type keywords by variant, off the list that the program's table is proved against."""
+    with open(os.path.join(print_runs.ROOT, "crates/words/specs/Keyword.antt"), encoding="utf-8") as file:
+        listed = re.search(r"^typeKeywords =(.*?)\[\]", file.read(), re.M | re.S)[1]
+    return re.findall(r'"(\w+)"', re.sub("--.*", "", listed))
+
+
+TYPE_WORDS = type_words()
 
 
 class Node(NamedTuple):
@@ -620,6 +627,75 @@ def part_typed(program, seed, cases, spaced):
     return not count["different"]
 
 
+# Part 3: a uniform of each type
+
+STORAGE_UNIFORM = "29 7"
+# The format that an image has: GLSL asks for one where the image may be read.
+FORMATS = {"": "rgba8", "i": "r32i", "u": "r32ui"}
+# How the Rust module misspells isampler2DMS and usampler2DMSArray.
+MISSPELT = ["isampler2MS", "usamplerDMSArray"]
+# Words for Vulkan alone.
+VULKAN_WORDS = ["texture2D", "utextureBuffer", "sampler", "samplerShadow", "subpassInput"]
+# What vectors and matrices are of, by their first letter.
+COMPONENTS = {"": "float", "d": "double", "b": "bool", "i": "int", "u": "uint"}
+
+
+def layout_of(word):
+    """The records of the layout that a uniform of this type must have, if there is one."""
+    image = re.match("([iu]?)image", word)
+    if image:
+        return ["29 18 1", f'30 0 0 "{FORMATS[image[1]]}"']
+    return ["29 18 1", '30 1 0 "binding"', *lines(constant(0))] if word == "atomic_uint" else []
+
+
+def declared_uniform(name, word):
+    layout = layout_of(word)
+    return ["47 1", "42", f'43 1 0 "{name}"', "31 1", f"28 0 {1 + bool(layout)}", *layout, STORAGE_UNIFORM, *lines(type_of(word))]
+
+
+def type_shown(word):
+    """What glslang calls a type in its trees."""
+    vector, matrix = re.fullmatch("(.?)vec(.)", word), re.fullmatch("(.?)mat(.)x?(.?)", word)
+    if vector:
+        return f"{vector[2]}-component vector of {COMPONENTS[vector[1]]}"
+    if matrix:
+        return f"{matrix[2]}X{matrix[3] or matrix[2]} matrix of {COMPONENTS[matrix[1]]}"
+    return word
+
+
+def uniforms_shown(program, uniforms, settings):
+    """The types of uniforms by name, as glslang shows them, and what it finds wrong. Words of types by name are given."""
+    declarations = [declared_uniform(name, word) for name, word in uniforms.items()]
+    said = asked(printed(program, declarations, [], settings), "-i")
+    return dict(re.findall(r"'(\w+)' \(.*?uniform (.*)\)$", said, re.M)), re.findall("ERROR: .*|ended by signal .*", said)
+
+
+def try_misspelt(program):
+    """Ends the program unless glslang refuses the misspelt words as types. (The program prints them: they are names.)"""
+    for word in MISSPELT:
+        if not uniforms_shown(program, {"u": word}, OPEN)[1]:
+            sys.exit(f"glslang: types: {word} must be no type")
+
+
+def part_types(program):
+    """Part 3; whether all went well."""
+    try_misspelt(program)
+    uniforms = {f"u{variant}": word for variant, word in enumerate(TYPE_WORDS) if word != "void"}
+    uniforms.update(dict.fromkeys([*MISSPELT, *VULKAN_WORDS], "int"))
+    must_be, count = {name: type_shown(word) for name, word in uniforms.items()}, collections.Counter()
+    for settings in (OPEN, print_runs.TIGHT, EXPORT):
+        shown, wrong = uniforms_shown(program, uniforms, settings)
+        different = [f"{name}, {word}: shown as {shown.get(name)}" for name, word in uniforms.items() if shown.get(name) != must_be[name]]
+        count.update({"shaders": 1, "equal": len(uniforms) - len(different), "different": len(different), "errors": len(wrong)})
+        for line in [*wrong[:3], *different[:3]]:
+            print(f"glslang: types: settings {settings.hex()}: {line}")
+    print(
+        f"glslang: types: uniforms of {len(set(uniforms.values()))} types in {count['shaders']} shaders, {count['errors']} errors, {count['equal']} types equal, "
+        f"{count['different']} different"
+    )
+    return not count["errors"] and not count["different"]
+
+
 def built():
     """The program's file; it is proved before it is built."""
     program = os.path.join(print_runs.ROOT, "target/bin/print")
@@ -642,7 +718,7 @@ def main():
     print(f"glslang: {version}; seed {seed}")
     program = built()
     went_well = [part(program, seed, cases, spaced) for spaced in (False, True) for part in (part_sound, part_typed)]
-    sys.exit(not all(went_well))
+    sys.exit(not all([*went_well, part_types(program)]))
 
 
 if __name__ == "__main__":

@@ -2,7 +2,7 @@
 """print_runs.py [PROGRAM]: runs the program `print` (crates/print) in a folder of its own for each line of the tables below, and compares all that it writes.
 
 Without PROGRAM it is proved and built first, and ./shader is run too, with its exit status. The texts and refusals are document 01's ("Calls", "Texts to match")
-and those of request #106; none is taken from the program."""
+and those of requests #102 and #106; none is taken from the program."""
 import os
 import subprocess
 import sys
@@ -21,7 +21,9 @@ TIGHT, EXPORT = bytes(21), bytes(21) + b"\1"
 OPEN = bytes([2, 4, 1, 1, 1, 1, 1, 1, 2, 2, 2, 2, 1, 2, 2, 0, 1, 1, 1, 1, 1])
 
 VOID = "31 \n 20 \n 21 \n"
-INT_X = '80 0 1 \n 47 1 \n 42 \n 43 1 0 "x" \n 31 \n 20 \n 21 2'
+# A variable of a name, and of a type by its record.
+VARIABLE = '80 0 1 \n 47 1 \n 42 \n 43 1 0 "{}" \n 31 \n 20 \n {}'
+INT_X = VARIABLE.format("x", "21 2")
 FUNCTION = '80 0 1 \n 81 \n 40 0 0 "f" \n' + VOID
 RETURN = FUNCTION + "60 0 1 \n 68 4 \n"
 RETURN_MINUS_A = RETURN + '7 3 \n 1 0 0 "a"'
@@ -90,6 +92,10 @@ RUNS = [
     ("minus over --a in OPEN", tree(RETURN_UNARY, settings_rec=OPEN), "void f() {\n    return ---a;\n}\n"),
     ("minus over --a in OPEN with byte 21", tree(RETURN_UNARY, settings_rec=OPEN + b"\1"), "void f() {\n    return - --a;\n}\n"),
     ("a field of 1 in EXPORT", tree(RETURN_FIELD, settings_rec=EXPORT), "void f(){return 1 .x;}"),
+    # The type words of request #102. The Rust module writes isampler2MS for isampler2DMS; here that is a name.
+    ("image2D x", tree(VARIABLE.format("x", "21 92")), "image2D x;"),
+    ("isampler2DMS isampler2MS", tree(VARIABLE.format("isampler2MS", "21 69")), "isampler2DMS isampler2MS;"),
+    ("the last type word", tree(VARIABLE.format("x", "21 118")), "uimageBuffer x;"),
     # Files that are missing, or empty.
     ("no file", {}, "refused 2 at 0\n"),
     ("no tree.rec", tree(INT_X, tree_rec=None), "refused 2 at 0\n"),
@@ -121,11 +127,15 @@ RUNS = [
     ("5: an expression in a unit", tree('80 0 1 \n 1 0 0 "x"'), "refused 5 at 1\n"),
     ("5: an expression as root", tree('1 0 0 "x"'), "refused 5 at 0\n"),
     ("7: a declaration's variant", tree('80 0 1 \n 47 6 0 "x"'), "refused 7 at 1\n"),
+    ("7: one behind the last type word", tree(VARIABLE.format("x", "21 119")), "refused 7 at 6\n"),
     ("8: a qualifier of nothing", tree("80 0 1 \n 47 5 \n 28"), "refused 8 at 2\n"),
     ("9: an unused count", tree('80 0 1 \n 47 4 1 "x"'), "refused 9 at 1\n"),
     ("10: a text beyond the names", tree("80 0 1 \n 47 4 0 0 2", names_txt=b"x"), "refused 10 at 1\n"),
     ("11: a digit first", tree('80 0 1 \n 47 4 0 "1x"'), "refused 11 at 1\n"),
     ("11: a fixed word", tree('80 0 1 \n 47 4 0 "if"'), "refused 11 at 1\n"),
+    # These two were printed before request #102.
+    ("11: a type word as a variable's name", tree(VARIABLE.format("image2D", "21 2")), "refused 11 at 3\n"),
+    ("11: a type word as a type's name", tree(VARIABLE.format("x", '22 0 0 "image2D"')), "refused 11 at 6\n"),
     ("12: records left over", tree(INT_X + "\n 80 \n 80"), "refused 12 at 7\n"),
     # Limits of depth, names and room.
     ("depth 200", tree(nested(DEEPEST), settings_rec=TIGHT), "void f()" + "{" * COMPOUNDS + ";" + "}" * COMPOUNDS),

@@ -88,19 +88,26 @@ def padded(numbers):
     return numbers + [0] * (ROW - len(numbers))
 
 
+def row(numbers, fields, count, parts):
+    assert len(parts) <= PARTS, f"{len(parts)} parts"
+    return padded([FIELDS.index(fields), COUNTS.index(count)] + [numbers.index(c) + (32 if times == "one" else 64) for times, c in parts])
+
+
+def with_rows(rows, more):
+    """The rows with more of them, and where these begin: where they stand already, or at the end, which may have their front. So equal rows are stored once."""
+    at = next(at for at in range(len(rows) + 1) if rows[at : at + len(more)] == more[: len(rows) - at])
+    return rows + more[len(rows) - at :], at
+
+
 def table():
     numbers = class_numbers()
     lines = dict(re.findall(r"^allowed Class\.(\S+) = (.*)$", read("Class.antt"), re.M))
     last = {k: row[0] for k, row in Rows(0).all().items()}
+    shapes = [Rows(v).all() for v in range(max(last.values()) + 1)]
     rows, first = [padded([])], {}
-    # a head has one byte for its first row, so the kind with the most variants comes last
-    for k in sorted(last, key=lambda k: (last[k], k)):
-        first[k] = len(rows)
-        for v in range(last[k] + 1):
-            _, fields, count, parts = Rows(v).all()[k]
-            assert len(parts) <= PARTS, f"kind {k} has {len(parts)} parts"
-            slots = [numbers.index(c) + (32 if times == "one" else 64) for times, c in parts]
-            rows.append(padded([FIELDS.index(fields), COUNTS.index(count)] + slots))
+    # the kinds with the most variants first: the rows of others are often among theirs
+    for k in sorted(last, key=lambda k: (-last[k], k)):
+        rows, first[k] = with_rows(rows, [row(numbers, *shapes[v][k][1:]) for v in range(last[k] + 1)])
     heads = [byte for k in range(KINDS) for byte in (last.get(k, 0), first.get(k, 0))]
     classes = [padded(allowed(lines[name])) for name in numbers]
     assert len(classes) <= CLASSES, f"{len(classes)} classes"
@@ -123,7 +130,7 @@ def written():
     return (
         "// The table's bytes, and where its sections begin. Written by tools/shapes.py from the rows in specs/.\n"
         f"pub type Shapes = [u8; {len(everything)}];\n\n"
-        "// Behind a head of 2 bytes for each kind: a row of 8 bytes for each kind and variant, and one for each class.\n"
+        "// Behind a head of 2 bytes for each kind, its last variant and its first row: rows of 8 bytes, which kinds may share, and one for each class.\n"
         f"pub const FIRST_ROW: usize = {places['first-row']};\n\n"
         f"pub const FIRST_CLASS: usize = {places['first-class-row']};\n\n"
         f"pub const TABLE: Shapes = *b\"\\\n{literal(everything, 32)}\";\n"

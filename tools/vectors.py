@@ -7,10 +7,11 @@ text. What stands there was made, from the repository's root, by
 vectors.py --lines: prints the vectors of crates/vectors/proofs again as lines of the oracle, for `oracle check`.
 
 A line is: Expr or Unit, then settings, records, names and text in hex (`-` for none), then the answer to the joined question (0, 1; 2: a unit, of which
-it is not asked). The texts are the Rust module's (000), where byte 21 of the settings is 1 those of the oracle's second printer; the joined answers are the
-oracle's own. Of FILE's lines so many are taken as COUNT says (300): some joined expressions, without needed spaces and with them, some units with them, then
-always the line that shows most for its length that none before has shown (kinds with variants, neighbouring kinds, settings values). All lines of KEPT are
-taken besides: cases that someone looked for, because wrong definitions agreed with all others or document 02 names them."""
+it is not asked). The texts are the Rust module's (000), with the two words mended that it misspells, and where byte 21 of the settings is 1 those of the
+oracle's second printer; the joined answers are the oracle's own. Of FILE's lines so many are taken as COUNT says (300): some joined expressions, without
+needed spaces and with them, some units with them, then always the line that shows most for its length that none before has shown (kinds with variants,
+neighbouring kinds, settings values). All lines of KEPT are taken besides: cases that someone looked for, because wrong definitions agreed with all others
+or document 02 names them."""
 import glob
 import os
 import re
@@ -73,7 +74,7 @@ def quoted(data):
 
 def module(first, vectors):
     lines = [
-        "-- Texts of the Rust module and of the oracle's second printer. Made by tools/vectors.py. Assumes nothing.",
+        "-- Texts of the Rust module, two words mended, and of the oracle's second printer. Made by tools/vectors.py. Assumes nothing.",
         "use mathlib.Core.Path.{refl}",
         "use Rattle.text.specs.Case.{defined}",
         "use Rattle.text.proofs.Computing.{computing}",

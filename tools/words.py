@@ -2,17 +2,19 @@
 """Writes what follows from the word list in crates/words/specs (Keyword, Word, Symbol), in crates/word_table:
 
     src/rows.rt             the table, and where its sections begin
-    proofs/Listed           how many of each there are
+    proofs/Listed           how many of each there are, and the row at which each section begins
     proofs/Sections         one law a section, which ties the rows to the list
 
 Run it from the repository's root after a change of the list; `words.py --check` only says whether the files are what it would write. Two words with one slot are an
-error: `words.py --slot` then finds other factors for `slot` (here and in word_table's specs/Slot). Nothing here is trusted: the check proves all of it against the list."""
+error: `words.py --slot` then looks for other factors, in a minute; they stand here, in word_table's specs/Slot and in crates/names. Nothing here is trusted: the check proves all of it against the list."""
 import itertools
 import re
 import sys
 
 LISTS, CRATE = 'crates/words/', 'crates/word_table/'
-WIDEST, SLOTS, FACTORS = 23, 512, (16, 16, 1, 1, 64)  # as word_table's specs/Table and specs/Slot have them
+# as word_table's specs/Table and specs/Slot have them; so are the factors of short and of long texts, and where the sum of a long one starts
+WIDEST, SLOTS, SHORT = 23, 512, 8
+FACTORS, LONG_FACTORS, LONG_START = (16, 1, 2, 4, 32, 8), (1, 8, 1, 8, 64), 204
 
 
 # ---- the list
@@ -22,8 +24,8 @@ def spec(name):
 
 
 def listed(file, name):
-    """The entries of the list `name`."""
-    body = re.search(r'^%s =(.*?)\[\]' % name, spec(file), re.M | re.S).group(1)
+    """The entries of the list `name`. (A comment may stand between them.)"""
+    body = re.sub(r'--.*', '', re.search(r'^%s =(.*?)\[\]' % name, spec(file), re.M | re.S).group(1))
     return [entry.strip().strip('"') for entry in body.split('∷') if entry.strip()]
 
 
@@ -57,27 +59,47 @@ TEXTS = ('texts fixedWords typeKeywords otherWords qualifierWords jumpWords bool
 
 # ---- what follows from it
 
+def is_long(word):
+    return len(word) > SHORT
+
+
 def slot_bytes(word):
-    """The bytes that a word's slot goes by: the first, the fourth and the fifth (or the last, where there are fewer), the last but one and the last."""
-    return [ord(word[min(i, len(word) - 1)]) for i in (0, 3, 4)] + [ord(word[-2]), ord(word[-1])]
+    """The bytes that a word's slot goes by. Of a short one the first and the fourth to eighth (or the last, where there are fewer); of a long one the first, the
+    second, the eighth, the seventh from its end and the last but one."""
+    byte = word.encode()
+    if is_long(word):
+        return byte[0], byte[1], byte[7], byte[-7], byte[-2]
+    return [byte[min(i, len(byte) - 1)] for i in (0, 3, 4, 5, 6, 7)]
 
 
-def slot(word, factors=FACTORS):
+def slot(word, factors):
     return sum(factor * byte for factor, byte in zip(factors, slot_bytes(word))) % SLOTS
 
 
-def apart(factors):
-    """Has each word a slot of its own?"""
-    taken = set()
-    return all(not (at in taken or taken.add(at)) for at in (slot(word, factors) for word in words))
+def apart(long, factors):
+    """The slots of the short words, or of the long ones, with these factors; nothing if two have one."""
+    taken = [slot(word, factors) for word in words if is_long(word) == long]
+    return set(taken) if len(set(taken)) == len(taken) else None
+
+
+def free_starts(short, long):
+    """Where the slots of long words may start and meet none of the short words' slots."""
+    return [start for start in range(SLOTS) if not any((start + at) % SLOTS in short for at in long)]
 
 
 if sys.argv[1:] == ['--slot']:
-    print(next(filter(apart, itertools.product([1 << k for k in range(9)], repeat=5)), 'none among the powers of two'))
+    powers = [1 << k for k in range(9)]
+    longs = [(factors, taken) for factors in itertools.product(powers, repeat=5) if (taken := apart(True, factors))]
+    for factors in itertools.product(powers, repeat=6):
+        if short := apart(False, factors):
+            for long_factors, long in longs:
+                for start in free_starts(short, long):
+                    print(factors, long_factors, start)
     sys.exit()
-if not apart(FACTORS):
+slot_of = {word: (LONG_START + slot(word, LONG_FACTORS)) % SLOTS if is_long(word) else slot(word, FACTORS) for word in words}
+row_of = {slot_of[word]: row for row, word in enumerate(words)}
+if len(row_of) < len(words):
     sys.exit('two fixed words have one slot')
-row_of = {slot(word): row for row, word in enumerate(words)}
 slots = [row_of.get(at, rows.index('+')) for at in range(SLOTS)]
 flaws = [0 if re.fullmatch('[A-Za-z0-9_]', chr(byte)) else 1 for byte in range(256)]
 
@@ -131,11 +153,13 @@ def number(name, says, n):
 
 
 write('proofs/Listed.antt', '\n'.join([
-    '-- How much there is of each. Written by tools/words.py. Assumes nothing.\nuse Prim.Native.Nat.{ℕ}\n',
-    number('words-count', 'how many fixed words there are', words_count),
+    '-- How much there is of each, and the row at which each section begins. Written by tools/words.py. Assumes nothing.\nuse Prim.Native.Nat.{ℕ}\n',
+    number('types-count', 'how many type keywords there are', sizes['type']),
+    number('words-count', 'how many fixed words there are, these included', words_count),
     number('rows-count', 'how many rows the table has', len(rows)),
     number('first-slot', 'how many bytes these are, so where the slots begin', first_slot),
-    number('first-flaw', 'and where the flaws of the bytes begin', first_slot + SLOTS)]))
+    number('first-flaw', 'and where the flaws of the bytes begin', first_slot + SLOTS),
+    *(number(f'first-{name}', f'the section {entries}', starts[name]) for name, _, entries, _, _ in SECTIONS if name != 'type')]))
 
 
 def row_law(name, file, entries, kind, function):
@@ -170,11 +194,11 @@ use Rattle.words.specs.Keyword.{typeKeywords, fixedWords}
 use Rattle.words.specs.Form.{same, oneOf}
 use Rattle.word_table.specs.Table.{operators, texts, textAt}
 use Rattle.word_table.proofs.Places.{section-text, section}
-use Rattle.word_table.proofs.Rule.{different, rows-apart}
+use Rattle.word_table.proofs.Rule.{different, words-different, rows-apart}
 ''',
     *(row_law(*s) for s in SECTIONS),
     f'''pub word-apart : (j k : ℕ) → j < {words_count} → k < {words_count} → textAt j ≡ textAt k → j ≡ k
-unfolding different oneOf same {TEXTS}
-word-apart j k hj hk e = rows-apart 0 fixedWords refl tt j k hj hk (ap textAt (zero-add j) ∙ e ∙ ap textAt (sym (zero-add k)))
+unfolding {TEXTS}
+word-apart j k hj hk e = rows-apart 0 fixedWords refl words-different j k hj hk (ap textAt (zero-add j) ∙ e ∙ ap textAt (sym (zero-add k)))
 ''',
     *(apart_law(name, entries, kind, function) for name, file, entries, kind, function in SECTIONS if file == 'Symbol')]))

@@ -1,8 +1,9 @@
-//! Questions and answers: what each of document 01's calls gives, with the Rust module as the printer; where needed spaces are
-//! asked for, with the second printer.
+//! Questions and answers: what each of document 01's calls gives, with the Rust module as the printer, two of whose words are
+//! mended; where needed spaces are asked for, with the second printer.
 
 use crate::joined::is_joined;
 use crate::line;
+use crate::mended::Counts;
 use crate::read::{self, Whole};
 use crate::refusal::Refusal;
 use crate::settings::{self, Settings};
@@ -48,6 +49,8 @@ pub struct Answer {
     pub text: Outcome<String>,
     /// How many needed spaces the text has (02, #106).
     pub needed: usize,
+    /// How often each keyword is mended in the text that the Rust module misspells (02, #102).
+    pub mended: Counts,
     /// Whether it is joined; for a unit that is no question.
     pub joined: Option<Outcome<bool>>,
 }
@@ -68,13 +71,13 @@ pub fn answer(question: &Question) -> Answer {
             (printed(settings, expr, spaced::expr), Some(joined))
         }
     };
-    let (text, needed) = match text {
-        Outcome::Given(Some(Spaced { text, needed })) => (Outcome::Given(text), needed.len()),
+    let (text, needed, mended) = match text {
+        Outcome::Given(Some(Spaced { text, needed, mended })) => (Outcome::Given(text), needed.len(), mended),
         Outcome::Given(None) => panic!("the tokens are not those of 000's text: {}", line::asked(question)),
-        Outcome::Refused(refusal) => (Outcome::Refused(refusal), 0),
-        Outcome::NotAsked => (Outcome::NotAsked, 0),
+        Outcome::Refused(refusal) => (Outcome::Refused(refusal), 0, Counts::default()),
+        Outcome::NotAsked => (Outcome::NotAsked, 0, Counts::default()),
     };
-    Answer { text, needed, joined }
+    Answer { text, needed, mended, joined }
 }
 
 /// The outcome of a print: refusal 1 comes before those of the tree.

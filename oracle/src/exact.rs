@@ -4,6 +4,7 @@
 //! The answers are the oracle's own; the harness asks a library about the smallest of these expressions.
 
 use crate::cases::small;
+use crate::mended;
 use crate::print;
 use crate::settings;
 use crate::spaced::lay;
@@ -43,7 +44,9 @@ impl Found {
     /// Counts an expression.
     fn count(&mut self, expr: &ast::Expr, tight: &FormattingSettings) {
         let tokens = tokens::expr(expr);
-        self.judge(&tokens, &print::expr(expr, tight), tokens.are_joined());
+        // What cannot be mended has other tokens, and is counted as such.
+        let text = mended::expr(expr, tight).map_or_else(|| print::expr(expr, tight), |mended| mended.text);
+        self.judge(&tokens, &text, tokens.are_joined());
     }
 
     /// Counts a tree of these tokens, of which this answer was given, and this text, in TIGHT or otherwise without operator

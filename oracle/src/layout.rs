@@ -7,8 +7,8 @@
 //! - A text with byte 21 at 1 always does, and so does every text of a tree in which nothing is joined.
 //! - And under any settings a text does exactly when a blank stands at every place where tokens are joined.
 //!
-//! Tried on grown trees and on those in which signs meet, each under pairs of random settings. The texts are 000's, the joined
-//! answers and the places of needed spaces the oracle's own.
+//! Tried on grown trees and on those in which signs meet, each under pairs of random settings. The texts are 000's (two words
+//! mended), the joined answers and the places of needed spaces the oracle's own.
 
 use crate::answer::{Question, Root};
 use crate::cases::cover::has_struct;
@@ -266,7 +266,7 @@ mod tests {
     fn judge(found: &mut Found, sample: &Sample, needed: bool, text: &str) {
         let (settings, text) = (settings::with(&settings::TIGHT, needed), text.to_owned());
         let tokens = &sample.tokens[sample.choice(&settings)];
-        found.judge(tokens, &settings, Some(&Spaced { text, needed: Vec::new() }));
+        found.judge(tokens, &settings, Some(&Spaced { text, ..Spaced::default() }));
     }
 
     #[test]

@@ -47,7 +47,7 @@ impl Found {
     }
 
     /// Counts a text of a tree with these tokens.
-    pub(crate) fn judge(&mut self, tokens: &Tokens, Spaced { text, needed }: &Spaced) {
+    pub(crate) fn judge(&mut self, tokens: &Tokens, Spaced { text, needed, .. }: &Spaced) {
         self.texts += 1;
         self.spaced += u64::from(!needed.is_empty());
         self.spaces += needed.len() as u64;
@@ -121,7 +121,7 @@ mod tests {
         let mut found = Found::default();
         // One that is well; one space too few, one too many; another text.
         for (text, needed) in [("- -1", vec![1]), ("--1", vec![]), ("- - 1", vec![1, 3]), ("- -2", vec![])] {
-            found.judge(&tokens, &Spaced { text: text.to_owned(), needed });
+            found.judge(&tokens, &Spaced { text: text.to_owned(), needed, ..Spaced::default() });
         }
         assert_eq!((found.texts, found.spaced, found.spaces), (4, 2, 3));
         assert_eq!((found.misread, found.needless, found.unlike, found.is_good()), (2, 1, 1, false));

@@ -1,4 +1,4 @@
-//! The judge itself: the texts that the Rust module (000) writes.
+//! The texts that the Rust module (000) writes, as they are; [`crate::mended`] makes the judge's of them.
 
 use crate::read::Tree;
 use glsl_lang::ast;

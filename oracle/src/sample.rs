@@ -134,13 +134,15 @@ fn first(kind: u8, cases: usize) -> Vec<u8> {
 }
 
 /// The cases of a root and a seed: the smallest trees with each kind and variant in three rooms, trees of all sizes that are
-/// joined in each way, every value of every setting, every refusal in several places, and the limits.
+/// joined in each way, every value of every setting, every refusal in several places, and the limits. In units also the words
+/// that are no names since request #102.
 pub fn cases(root: Root, seed: u64) -> Vec<Case> {
     let trees = cover::smallest(root, seed, GROWN);
     let covering = trees.iter().cloned().chain((root == Root::Unit).then(int_x));
     let covering =
         covering.flat_map(|tree| [Room::OneShort, Room::Exact, Room::Larger].map(|room| (tree.clone(), room)));
     let others = joined(root, seed).chain(each_setting(root)).chain(refused(&trees, seed)).chain(at_limits(root));
+    let others = others.chain((root == Root::Unit).then(words_as_names).into_iter().flatten());
     covering.chain(others.map(|question| (question, Room::Larger))).filter_map(|(q, room)| Case::new(q, room)).collect()
 }
 
@@ -278,6 +280,15 @@ fn expr_limits() -> impl Iterator<Item = Question> {
     wide.chain(names).chain(texts).chain(ends).chain(integers)
 }
 
+/// `invariant sampler1D;`: each word that was a name before request #102, which is refused, and names that look like one.
+fn words_as_names() -> impl Iterator<Item = Question> {
+    let words = words::TYPE_KEYWORDS[words::FIRST_KEYWORDS..].iter().chain(&limits::LIKE_OPAQUE_TYPES);
+    words.map(|word| {
+        let length = u32::try_from(word.len()).expect(SMALL);
+        tight(Root::Unit, all(&[&many(80, 1), &rec(47, 4, 0, 0, length)]), *word)
+    })
+}
+
 fn expr(records: Vec<u8>, names: &[u8]) -> Question {
     tight(Root::Expr, records, names)
 }
@@ -291,7 +302,7 @@ mod tests {
 
     #[test]
     fn the_samples_have_everything() {
-        for (root, sizes) in [(Root::Expr, 500..=1_000), (Root::Unit, 500..=1_000)] {
+        for (root, sizes) in [(Root::Expr, 500..=1_300), (Root::Unit, 500..=1_300)] {
             let cases = cases(root, 1);
             assert!(sizes.contains(&cases.len()), "{root:?}: {}", cases.len());
             let numbers: BTreeSet<u8> = cases.iter().map(|case| case.print.0).collect();
@@ -319,6 +330,17 @@ mod tests {
         let cases = cases(Root::Expr, 1);
         let [apart, joined] = [(0, 0), (0, 1)].map(|said| cases.iter().filter(|case| case.joined == said).count());
         assert!(apart >= JOINED && joined >= 6 * JOINED);
+    }
+
+    /// The first 68 are words, at the second record; the others are names.
+    #[test]
+    fn words_are_refused_as_names_and_names_like_them_are_not() {
+        let cases = cases(Root::Unit, 1);
+        let case = |question| cases.iter().find(|case| case.question == question).expect("it is among the cases");
+        let prints: Vec<Numbers> = words_as_names().map(|question| case(question).print).collect();
+        let (words, names) = prints.split_at(68);
+        assert!(words.iter().all(|print| *print == (11, 1)));
+        assert!(names.iter().all(|(number, _)| *number == 0) && names.len() == limits::LIKE_OPAQUE_TYPES.len());
     }
 
     #[test]

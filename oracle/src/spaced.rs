@@ -1,24 +1,26 @@
-//! The second printer, for settings whose byte 21 is 1 (02, #106): the Rust module's text, with one space before each operand
-//! that makes an expression joined by #103's rule, and before the dot after an IntConst; none where operator spaces put one.
+//! The second printer, for settings whose byte 21 is 1 (02, #106): the judge's text, with one space before each operand that
+//! makes an expression joined by #103's rule, and before the dot after an IntConst; none where operator spaces put one.
 //!
 //! The tokens are laid over the text, so that both have to say the same of every tree that is printed here.
 
+use crate::mended::{self, Counts, Mended};
 use crate::read::Tree;
 use crate::settings::Settings;
 use crate::tokens::{self, Tokens};
-use crate::{print, split};
 use glsl_lang::ast;
 
-/// A text, and where in it needed spaces were put.
+/// A text, where in it needed spaces were put, and what is mended in it.
 #[derive(Clone, Debug, Default, PartialEq, Eq)]
 pub struct Spaced {
     /// The text.
     pub text: String,
     /// The places of the spaces that the Rust module has not.
     pub needed: Vec<usize>,
+    /// How often each keyword is mended that the Rust module misspells.
+    pub mended: Counts,
 }
 
-/// The text of either; nothing where its tokens are not those of the Rust module's text.
+/// The text of either; nothing where its tokens had to be laid over the Rust module's text and are not that text's.
 pub fn tree(tree: &Tree, settings: &Settings) -> Option<Spaced> {
     match tree {
         Tree::Unit(tree) => unit(tree, settings),
@@ -26,42 +28,39 @@ pub fn tree(tree: &Tree, settings: &Settings) -> Option<Spaced> {
     }
 }
 
-/// The text of a unit; nothing where its tokens are not those of the Rust module's text.
+/// The same of a unit.
 pub fn unit(unit: &ast::TranslationUnit, settings: &Settings) -> Option<Spaced> {
     let collapse = settings.module.collapse_single_item_compound_statements;
-    spaced(print::unit(unit, &settings.module), settings, || tokens::unit(unit, collapse))
+    spaced(mended::unit(unit, &settings.module)?, settings, || tokens::unit(unit, collapse))
 }
 
 /// The same of an expression.
 pub fn expr(expr: &ast::Expr, settings: &Settings) -> Option<Spaced> {
-    spaced(print::expr(expr, &settings.module), settings, || tokens::expr(expr))
+    spaced(mended::expr(expr, &settings.module)?, settings, || tokens::expr(expr))
 }
 
-/// The Rust module's text, as it is or with needed spaces.
-fn spaced(text: String, settings: &Settings, tokens: impl FnOnce() -> Tokens) -> Option<Spaced> {
-    if settings.spaces_where_needed {
-        lay(&tokens(), &text)
-    } else {
-        Some(Spaced { text, needed: Vec::new() })
-    }
+/// The judge's text, as it is or with needed spaces.
+fn spaced(Mended { text, counts }: Mended, settings: &Settings, tokens: impl FnOnce() -> Tokens) -> Option<Spaced> {
+    let spaced =
+        if settings.spaces_where_needed { lay(&tokens(), &text)? } else { Spaced { text, ..Spaced::default() } };
+    Some(Spaced { mended: counts, ..spaced })
 }
 
 /// Lays tokens over a text that has blanks between them, and puts a space where one is needed and none stands; nothing where
 /// the text has other tokens.
 pub fn lay(tokens: &Tokens, text: &str) -> Option<Spaced> {
-    let (mut spaced, mut rest) = (Spaced::default(), text);
-    for (word, joint) in tokens.iter() {
-        let (blanks, behind) = split::blanks(rest);
+    let (before, last) = tokens.blanks_in(text, |word| word)?;
+    let mut spaced = Spaced::default();
+    for ((word, joint), blanks) in tokens.iter().zip(before) {
         spaced.text.push_str(blanks);
         if joint.is_some() && blanks.is_empty() {
             spaced.needed.push(spaced.text.len());
             spaced.text.push(' ');
         }
         spaced.text.push_str(word);
-        rest = behind.strip_prefix(word)?;
     }
-    spaced.text.push_str(rest);
-    split::blanks(rest).1.is_empty().then_some(spaced)
+    spaced.text.push_str(last);
+    Some(spaced)
 }
 
 #[cfg(test)]
@@ -78,7 +77,7 @@ mod tests {
 
     #[test]
     fn a_space_is_put_where_none_stands() {
-        let put = |text| lay(&tokens(), text).map(|Spaced { text, needed }| (text, needed));
+        let put = |text| lay(&tokens(), text).map(|Spaced { text, needed, .. }| (text, needed));
         assert_eq!(put("a---b.x"), Some(("a- --b.x".to_owned(), vec![2])));
         assert_eq!(put("a - --b.x\n"), Some(("a - --b.x\n".to_owned(), vec![])));
         assert_eq!(put("\ta-\n--b.x"), Some(("\ta-\n--b.x".to_owned(), vec![])));

@@ -83,7 +83,7 @@ pub static INTERPOLATION: [InterpolationQualifierData; 3] =
     [InterpolationQualifierData::Smooth, InterpolationQualifierData::Flat, InterpolationQualifierData::NoPerspective];
 
 /// Kind 21: the type keywords.
-pub static TYPE_KEYWORDS: [TypeSpecifierNonArrayData; 51] = [
+pub static TYPE_KEYWORDS: [TypeSpecifierNonArrayData; 119] = [
     TypeSpecifierNonArrayData::Void,
     TypeSpecifierNonArrayData::Bool,
     TypeSpecifierNonArrayData::Int,
@@ -135,7 +135,78 @@ pub static TYPE_KEYWORDS: [TypeSpecifierNonArrayData; 51] = [
     TypeSpecifierNonArrayData::Sampler2DShadow,
     TypeSpecifierNonArrayData::Sampler2DArray,
     TypeSpecifierNonArrayData::AtomicUInt,
+    TypeSpecifierNonArrayData::Sampler1D,
+    TypeSpecifierNonArrayData::Sampler1DShadow,
+    TypeSpecifierNonArrayData::Sampler1DArray,
+    TypeSpecifierNonArrayData::Sampler1DArrayShadow,
+    TypeSpecifierNonArrayData::ISampler1D,
+    TypeSpecifierNonArrayData::ISampler1DArray,
+    TypeSpecifierNonArrayData::USampler1D,
+    TypeSpecifierNonArrayData::USampler1DArray,
+    TypeSpecifierNonArrayData::Sampler2DArrayShadow,
+    TypeSpecifierNonArrayData::ISampler2D,
+    TypeSpecifierNonArrayData::ISampler2DArray,
+    TypeSpecifierNonArrayData::USampler2D,
+    TypeSpecifierNonArrayData::USampler2DArray,
+    TypeSpecifierNonArrayData::Sampler2DRect,
+    TypeSpecifierNonArrayData::Sampler2DRectShadow,
+    TypeSpecifierNonArrayData::ISampler2DRect,
+    TypeSpecifierNonArrayData::USampler2DRect,
+    TypeSpecifierNonArrayData::Sampler2DMs,
+    TypeSpecifierNonArrayData::ISampler2DMs,
+    TypeSpecifierNonArrayData::USampler2DMs,
+    TypeSpecifierNonArrayData::Sampler2DMsArray,
+    TypeSpecifierNonArrayData::ISampler2DMsArray,
+    TypeSpecifierNonArrayData::USampler2DMsArray,
+    TypeSpecifierNonArrayData::ISampler3D,
+    TypeSpecifierNonArrayData::USampler3D,
+    TypeSpecifierNonArrayData::SamplerCubeShadow,
+    TypeSpecifierNonArrayData::ISamplerCube,
+    TypeSpecifierNonArrayData::USamplerCube,
+    TypeSpecifierNonArrayData::SamplerCubeArray,
+    TypeSpecifierNonArrayData::SamplerCubeArrayShadow,
+    TypeSpecifierNonArrayData::ISamplerCubeArray,
+    TypeSpecifierNonArrayData::USamplerCubeArray,
+    TypeSpecifierNonArrayData::SamplerBuffer,
+    TypeSpecifierNonArrayData::ISamplerBuffer,
+    TypeSpecifierNonArrayData::USamplerBuffer,
+    TypeSpecifierNonArrayData::Image1D,
+    TypeSpecifierNonArrayData::IImage1D,
+    TypeSpecifierNonArrayData::UImage1D,
+    TypeSpecifierNonArrayData::Image1DArray,
+    TypeSpecifierNonArrayData::IImage1DArray,
+    TypeSpecifierNonArrayData::UImage1DArray,
+    TypeSpecifierNonArrayData::Image2D,
+    TypeSpecifierNonArrayData::IImage2D,
+    TypeSpecifierNonArrayData::UImage2D,
+    TypeSpecifierNonArrayData::Image2DArray,
+    TypeSpecifierNonArrayData::IImage2DArray,
+    TypeSpecifierNonArrayData::UImage2DArray,
+    TypeSpecifierNonArrayData::Image2DRect,
+    TypeSpecifierNonArrayData::IImage2DRect,
+    TypeSpecifierNonArrayData::UImage2DRect,
+    TypeSpecifierNonArrayData::Image2DMs,
+    TypeSpecifierNonArrayData::IImage2DMs,
+    TypeSpecifierNonArrayData::UImage2DMs,
+    TypeSpecifierNonArrayData::Image2DMsArray,
+    TypeSpecifierNonArrayData::IImage2DMsArray,
+    TypeSpecifierNonArrayData::UImage2DMsArray,
+    TypeSpecifierNonArrayData::Image3D,
+    TypeSpecifierNonArrayData::IImage3D,
+    TypeSpecifierNonArrayData::UImage3D,
+    TypeSpecifierNonArrayData::ImageCube,
+    TypeSpecifierNonArrayData::IImageCube,
+    TypeSpecifierNonArrayData::UImageCube,
+    TypeSpecifierNonArrayData::ImageCubeArray,
+    TypeSpecifierNonArrayData::IImageCubeArray,
+    TypeSpecifierNonArrayData::UImageCubeArray,
+    TypeSpecifierNonArrayData::ImageBuffer,
+    TypeSpecifierNonArrayData::IImageBuffer,
+    TypeSpecifierNonArrayData::UImageBuffer,
 ];
+
+/// The type keywords that the Rust module misspells: section 3.6's word, which is printed, and the module's (02, #102).
+pub const MISSPELT: [(&str, &str); 2] = [("isampler2DMS", "isampler2MS"), ("usampler2DMSArray", "usamplerDMSArray")];
 
 #[cfg(test)]
 mod tests {
@@ -157,9 +228,14 @@ mod tests {
         };
     }
 
+    /// As documents 01 and 02 list them.
     #[test]
-    fn type_keywords_are_written_as_document_01_lists_them() {
-        assert!(shown!(TYPE_KEYWORDS, show_type_specifier_non_array).eq(words::TYPE_KEYWORDS));
+    fn type_keywords_are_written_by_their_words_but_for_two() {
+        let shown: Vec<String> = shown!(TYPE_KEYWORDS, show_type_specifier_non_array).collect();
+        assert_eq!(shown.len(), words::TYPE_KEYWORDS.len());
+        let both = words::TYPE_KEYWORDS.into_iter().zip(shown.iter().map(String::as_str));
+        assert!(both.filter(|(word, shown)| word != shown).eq(MISSPELT));
+        assert_eq!([69, 73].map(|variant| words::TYPE_KEYWORDS[variant]), MISSPELT.map(|(word, _)| word));
     }
 
     #[test]

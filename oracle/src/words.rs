@@ -1,8 +1,9 @@
 //! The forms of texts (01, below "Tree records"): names, which are no fixed word, and float texts.
 
-/// The 51 type keywords, in the order of kind 21's variants.
+/// The 119 type keywords, in the order of kind 21's variants: those that document 01 lists, then the sampler and image words
+/// that are left of 4.60, section 3.6, by its lines (02, #102).
 #[rustfmt::skip]
-pub const TYPE_KEYWORDS: [&str; 51] = [
+pub const TYPE_KEYWORDS: [&str; 119] = [
     "void", "bool", "int", "uint", "float", "double",
     "vec2", "vec3", "vec4", "dvec2", "dvec3", "dvec4", "bvec2", "bvec3", "bvec4",
     "ivec2", "ivec3", "ivec4", "uvec2", "uvec3", "uvec4",
@@ -11,7 +12,33 @@ pub const TYPE_KEYWORDS: [&str; 51] = [
     "dmat2", "dmat3", "dmat4",
     "dmat2x2", "dmat2x3", "dmat2x4", "dmat3x2", "dmat3x3", "dmat3x4", "dmat4x2", "dmat4x3", "dmat4x4",
     "sampler2D", "sampler3D", "samplerCube", "sampler2DShadow", "sampler2DArray", "atomic_uint",
+
+    "sampler1D", "sampler1DShadow", "sampler1DArray", "sampler1DArrayShadow",
+    "isampler1D", "isampler1DArray", "usampler1D", "usampler1DArray",
+    "sampler2DArrayShadow",
+    "isampler2D", "isampler2DArray", "usampler2D", "usampler2DArray",
+    "sampler2DRect", "sampler2DRectShadow", "isampler2DRect", "usampler2DRect",
+    "sampler2DMS", "isampler2DMS", "usampler2DMS",
+    "sampler2DMSArray", "isampler2DMSArray", "usampler2DMSArray",
+    "isampler3D", "usampler3D",
+    "samplerCubeShadow", "isamplerCube", "usamplerCube",
+    "samplerCubeArray", "samplerCubeArrayShadow", "isamplerCubeArray", "usamplerCubeArray",
+    "samplerBuffer", "isamplerBuffer", "usamplerBuffer",
+    "image1D", "iimage1D", "uimage1D",
+    "image1DArray", "iimage1DArray", "uimage1DArray",
+    "image2D", "iimage2D", "uimage2D",
+    "image2DArray", "iimage2DArray", "uimage2DArray",
+    "image2DRect", "iimage2DRect", "uimage2DRect",
+    "image2DMS", "iimage2DMS", "uimage2DMS",
+    "image2DMSArray", "iimage2DMSArray", "uimage2DMSArray",
+    "image3D", "iimage3D", "uimage3D",
+    "imageCube", "iimageCube", "uimageCube",
+    "imageCubeArray", "iimageCubeArray", "uimageCubeArray",
+    "imageBuffer", "iimageBuffer", "uimageBuffer",
 ];
+
+/// How many of them document 01 lists. The others were names before request #102.
+pub const FIRST_KEYWORDS: usize = 51;
 
 /// The other words that the printer can write for a tree of document 01.
 #[rustfmt::skip]
@@ -76,15 +103,36 @@ fn are_digits(text: &[u8]) -> bool {
 #[cfg(test)]
 mod tests {
     use super::*;
+    use crate::tables::MISSPELT;
+    use std::collections::BTreeSet;
 
     #[test]
     fn names() {
-        for name in ["a", "_", "lf", "u", "Int", "ints", "gl_Position", "sampler1D", "a9", &"x".repeat(255)] {
+        for name in ["a", "_", "lf", "u", "Int", "ints", "gl_Position", "sampler4D", "a9", &"x".repeat(255)] {
             assert!(is_name(name.as_bytes()), "{name}");
         }
         for other in ["", "9a", "a-b", "é", "int", "true", "precision", "atomic_uint", &"x".repeat(256)] {
             assert!(!is_name(other.as_bytes()), "{other}");
         }
+    }
+
+    /// Words of section 3.6 that it gives to Vulkan alone or keeps for future use are none of ours (02, #102).
+    #[test]
+    fn opaque_types_are_no_names_but_for_vulkans_and_future_ones() {
+        for word in ["sampler1D", "isampler2DMS", "usampler2DMSArray", "image2D", "uimageBuffer"] {
+            assert!(!is_name(word.as_bytes()), "{word}");
+        }
+        for name in ["texture2D", "utextureBuffer", "sampler", "samplerShadow", "subpassInput", "sampler3DRect"] {
+            assert!(is_name(name.as_bytes()), "{name}");
+        }
+        assert!(MISSPELT.iter().all(|(word, misspelt)| !is_name(word.as_bytes()) && is_name(misspelt.as_bytes())));
+    }
+
+    #[test]
+    fn fixed_words_are_all_different() {
+        let words: BTreeSet<&str> = TYPE_KEYWORDS.into_iter().chain(OTHER_WORDS).collect();
+        assert_eq!(words.len(), 119 + 43);
+        assert_eq!(TYPE_KEYWORDS[FIRST_KEYWORDS - 1..=FIRST_KEYWORDS], ["atomic_uint", "sampler1D"]);
     }
 
     #[test]

@@ -3,7 +3,9 @@
 use oracle::answer::{answer, Outcome, Question, Root};
 use oracle::cases::cover::{pairs, records};
 use oracle::cases::damage;
+use oracle::name::name;
 use oracle::random::Random;
+use oracle::tables::MISSPELT;
 use oracle::{grow, settings};
 use std::collections::BTreeSet;
 
@@ -70,6 +72,19 @@ fn needed_spaces_are_printed() {
     for root in [Root::Expr, Root::Unit] {
         let spaced = questions().filter(|q| q.root == root && answer(q).needed > 0).count();
         assert!(spaced > 5, "{root:?}: {spaced}");
+    }
+}
+
+/// The Rust module misspells two keywords (02, #102): both come up, and so do names that are spelt as it spells them.
+#[test]
+fn misspelt_keywords_come_up_and_names_like_them() {
+    let is_named = |q: &Question, text: &str| {
+        (0..records(q).count() as u64).any(|index| name(&q.records, &q.names, index) == text.as_bytes())
+    };
+    for (at, (keyword, misspelt)) in MISSPELT.into_iter().enumerate() {
+        let mended = questions().filter(|q| answer(q).mended[at] > 0).count();
+        let named = questions().filter(|q| is_named(q, misspelt)).count();
+        assert!(mended > 10 && named > 10, "{keyword}: {mended}, {misspelt}: {named}");
     }
 }
 

@@ -125,6 +125,16 @@ fn variant_is_out_of_range() {
     unit(&rec(80, 1, 0, 1, 0), "", Some((7, 0)));
 }
 
+/// Of a call's type (02, #102).
+#[test]
+fn type_keywords_end_at_118() {
+    for (variant, expected) in
+        [(0, None), (50, None), (51, None), (118, None), (119, Some((7, 2))), (255, Some((7, 2)))]
+    {
+        expr(&all(&[&many(12, 0), &keyword(variant)]), "", expected);
+    }
+}
+
 #[test]
 fn precision_takes_three_variants() {
     let declaration = |qualifier: &[u8]| all(&[&many(80, 1), &plain(47, 2), qualifier, &keyword(4)]);
@@ -180,6 +190,20 @@ fn text_has_the_wrong_form() {
     expr(&rec(1, 0, 0, 0, 255), &"x".repeat(256), None);
     expr(&rec(1, 0, 0, 0, 256), &"x".repeat(256), Some((11, 0)));
     expr(&rec(5, 0, 0, 0, 3), "1.0", Some((11, 0)));
+}
+
+/// Words of section 3.6, as names of variables and of types; what it gives to Vulkan or keeps for future use stays a name, and so
+/// does what the Rust module misspells (02, #102).
+#[test]
+fn opaque_types_are_no_names() {
+    let names = ["isampler2MS", "usamplerDMSArray", "texture2D", "samplerShadow", "subpassInput", "sampler3DRect"];
+    let words = ["sampler1D", "isampler2DMS", "usampler2DMSArray", "image2D", "uimageBuffer", "sampler2D"];
+    for (text, refused) in names.map(|name| (name, None)).into_iter().chain(words.map(|word| (word, Some(11)))) {
+        let length = u32::try_from(text.len()).expect("short");
+        expr(&rec(1, 0, 0, 0, length), text, refused.map(|number| (number, 0)));
+        let call = all(&[&many(12, 0), &plain(20, 0), &rec(22, 0, 0, 0, length)]);
+        expr(&call, text, refused.map(|number| (number, 2)));
+    }
 }
 
 #[test]

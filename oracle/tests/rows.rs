@@ -1,5 +1,5 @@
-//! The Rust module's answers to document 01's "Texts to match", and to the rows of our own in crates/text/proofs/Rows.antt; and
-//! the second printer's to rows with needed spaces (02, #106).
+//! The Rust module's answers to document 01's "Texts to match", and to the rows of our own in crates/text/proofs/Rows.antt; the
+//! second printer's to rows with needed spaces (02, #106); and both's to rows with the rest of the opaque types (02, #102).
 //!
 //! The trees are built here by hand a second time, so that a slip in that file's records shows as a difference.
 
@@ -9,6 +9,7 @@ use common::ask;
 use oracle::answer::{Outcome, Root};
 use oracle::settings::{longer, EXPORT, OPEN, SIZE, TIGHT};
 use oracle::tree::{all, declared, function, int, keyword, many, named, plain, rec, var};
+use oracle::words::{FIRST_KEYWORDS, TYPE_KEYWORDS};
 
 /// Asserts the text of a unit in one settings.
 fn unit_in(settings: &[u8], records: &[u8], names: &str, text: &str) {
@@ -214,6 +215,45 @@ fn expressions_in_units_are_spaced() {
     unit_in(&EXPORT, &records, "abfx", "int a[- --b]=1 .x;void f(){while(a- -b)return - --b;}");
     let open = "int a[- --b] = 1 .x;\nvoid f() {\n    while (a - -b) return - --b;\n}\n";
     unit_in(&OPEN_SPACED, &records, "abfx", open);
+}
+
+// The rest of the opaque types (02, #102). The Rust module misspells two of them: its text is mended.
+
+/// The keyword alone, beside names that are spelt as the module misspells it, and with a needed space behind it.
+#[test]
+fn misspelt_keywords_are_mended() {
+    for (variant, word, names) in [(69, "isampler2DMS", "isampler2MS"), (73, "usampler2DMSArray", "usamplerDMSArray")] {
+        let length = u32::try_from(names.len()).expect("short");
+        let name = |kind, variant| rec(kind, variant, 0, 0, length);
+        let call = |arguments| all(&[&many(12, arguments), &keyword(variant)]);
+        let alone = format!("{word}()");
+        expr(&call(0), "", &alone, &alone, false);
+        let beside = format!("{word}({names})");
+        expr(&all(&[&call(1), &name(1, 0)]), names, &beside, &beside, false);
+        let other_way_round = all(&[&many(12, 1), &name(1, 0), &call(0)]);
+        expr(&other_way_round, names, &format!("{names}({word}())"), &format!("{names}({word}())"), false);
+        let joined = all(&[&call(1), &minus(), &name(1, 0), &negate(), &call(0)]);
+        expr(&joined, names, &format!("{word}({names}--{word}())"), &format!("{word}({names} - -{word}())"), true);
+        spaced(&joined, names, &format!("{word}({names}- -{word}())"), &format!("{word}({names} - -{word}())"));
+        let list = all(&[&plain(47, 1), &plain(42, 0), &name(43, 1), &plain(31, 0)]);
+        let declared = all(&[&many(80, 2), &list, &keyword(variant), &list, &plain(20, 0), &name(22, 0)]);
+        let [tight, open] = [";", ";\n"].map(|end| format!("{word} {names}{end}{names} {names}{end}"));
+        unit(&declared, names, &tight, open.trim_end());
+        unit_in(&EXPORT, &declared, names, &tight);
+        unit_in(&OPEN_SPACED, &declared, names, open.trim_end());
+    }
+}
+
+/// All of them, in section 3.6's order.
+#[test]
+fn opaque_types_are_written() {
+    let words = &TYPE_KEYWORDS[FIRST_KEYWORDS..];
+    let types: Vec<u8> = (51..=118).flat_map(keyword).collect();
+    let records = all(&[&many(80, 1), &plain(47, 5), &many(28, 1), &rec(29, 17, 68, 0, 0), &types]);
+    let [tight, open] = [",", ", "].map(|comma| format!("subroutine({});", words.join(comma)));
+    unit(&records, "", &tight, &open);
+    unit_in(&EXPORT, &records, "", &tight);
+    unit_in(&OPEN_SPACED, &records, "", &open);
 }
 
 /// OPEN and TIGHT with collapse, and a mixture in which a flushed newline shows.

@@ -79,6 +79,10 @@ accepted =
     ++ expr (array-callee ++ many 24 1 ++ plain 25 1 ++ rec 2 0 0 2 0) "" 6
     ++ expr (rec 5 0 0 0 3) "0.5" 1
     ++ expr (rec 2 0 0 2147483648 0) "" 1
+    -- 02, #102: the last type word; a type that 000 misspells, as the name that it is then; a word of Vulkan alone
+    ++ expr (many 12 0 ++ keyword 118) "" 3
+    ++ expr (rec 1 0 0 0 16) "usamplerDMSArray" 1
+    ++ expr (rec 1 0 0 0 9) "texture2D" 1
 
 abbrev refused : List Case
 refused =
@@ -96,8 +100,9 @@ refused =
     ++ no-expr (plain 17 0) "" Why.KindNotAllowed 0
     ++ no-expr (not-op ++ keyword 2) "" Why.KindNotAllowed 1
     ++ no-unit (many 80 1 ++ declared 0 ++ var 0) "x" Why.KindNotAllowed 5
-    -- 7: behind the last variant; a variant where there are none; a qualifier that is no precision: storage, and layout (whose count is 0 too)
+    -- 7: behind the last variant, of type words too (02, #102); a variant where there are none; a qualifier that is no precision: storage, and layout (whose count is 0 too)
     ++ no-expr (bool 2) "" Why.VariantOutOfRange 0
+    ++ no-expr (many 12 0 ++ keyword 119) "" Why.VariantOutOfRange 2
     ++ no-expr (named 1 1 0) "x" Why.VariantOutOfRange 0
     ++ no-unit (precision ++ plain 29 16 ++ keyword 4) "" Why.VariantOutOfRange 2
     ++ no-unit (precision ++ plain 29 18 ++ keyword 4) "" Why.VariantOutOfRange 2
@@ -110,10 +115,11 @@ refused =
     -- 10: one byte beyond; a sum beyond 32 bits does not wrap
     ++ no-expr (rec 1 0 0 0 2) "x" Why.TextBeyond 0
     ++ no-expr (rec 1 0 0 (2 ^ 32 - 1) 2) "x" Why.TextBeyond 0
-    -- 11: no byte, a digit first, a fixed word; a float that ends in a point
+    -- 11: no byte, a digit first, a fixed word, one of 02, #102; a float that ends in a point
     ++ no-expr (rec 1 0 0 0 0) "x" Why.TextMisformed 0
     ++ no-expr (rec 1 0 0 0 2) "1x" Why.TextMisformed 0
     ++ no-expr (rec 1 0 0 0 3) "int" Why.TextMisformed 0
+    ++ no-expr (minus ++ rec 1 0 0 0 1 ++ rec 1 0 0 1 7) "aimage2D" Why.TextMisformed 2
     ++ no-expr (rec 6 0 0 0 2) "1." Why.TextMisformed 0
     -- 12: a second expression; a declaration that the unit does not count
     ++ no-expr (var 0 ++ var 0) "x" Why.RecordsLeftOver 1

@@ -154,18 +154,18 @@ int-starts n = go (negative n)
     go true = starts-token (Token.symbol Symbol.dash) _ minus [] refl refl refl
     go false = number
 
--- the 51 type keywords, in one computed test
+-- the type keywords, in one computed test
 unfoldable with-letter : List ℕ → Bool
 with-letter [] = false
 with-letter (b ∷ bs) = letter b
 
-keywords : below 51 (λ v. with-letter (bytes (getD typeKeywords v ""))) ≡ below 51 (λ v. true)
+keywords : below (length typeKeywords) (λ v. with-letter (bytes (getD typeKeywords v ""))) ≡ below (length typeKeywords) (λ v. true)
 unfolding below typeKeywords letter with-letter
 keywords = refl
 
 keyword-starts : (v : ℕ) → KeywordNumber v → Starts 0 (token (Token.type v) ∷ [])
 unfolding spell typeKeywords with-letter letter
-keyword-starts v h = go (bytes (getD typeKeywords v "")) refl (at (λ v. with-letter (bytes (getD typeKeywords v ""))) (λ v. true) 51 v h keywords)
+keyword-starts v h = go (bytes (getD typeKeywords v "")) refl (at (λ v. with-letter (bytes (getD typeKeywords v ""))) (λ v. true) (length typeKeywords) v h keywords)
   where
     go : (s : List ℕ) → bytes (getD typeKeywords v "") ≡ s → with-letter s ≡ true → Starts 0 (token (Token.type v) ∷ [])
     go [] e t = absurd (let z : _≡_ {A = ℕ} 0 1 = cc in omega arith)

@@ -21,7 +21,7 @@ Float s = floatForm s ≡ true
 abbrev pub Bits : ℕ → Type 0
 Bits n = n < 2 ^ 32
 
--- one of the 51 type keywords
+-- one of the type keywords
 abbrev pub KeywordNumber : ℕ → Type 0
 KeywordNumber v = v < length typeKeywords
 

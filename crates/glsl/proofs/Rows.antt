@@ -1,5 +1,5 @@
--- The rows of document 01, those marked P and its two other units, those of the joined question as 02, #103 mends it, in TIGHT and in OPEN, and those of needed spaces (02, #106), of the calls
--- themselves: one table, one theorem, by computation from the bytes of settings, records and names. Assumes nothing.
+-- The rows of document 01, those marked P and its two other units, those of the joined question as 02, #103 mends it, in TIGHT and in OPEN, those of needed spaces (02, #106) and of the new type words (02, #102), of the
+-- calls themselves: one table, one theorem, by computation from the bytes of settings, records and names. Assumes nothing.
 use Prim.Native.Nat.{ℕ, _-_}
 use mathlib.Core.Path.{_≡_, refl}
 use mathlib.Core.Bool.{Bool, cond}
@@ -10,7 +10,7 @@ use lib.ListN.{length, replicate}
 use Rattle.accept.specs.declared.Refusal.the-variants.{RoomTooSmall}
 use Rattle.accepted.proofs.Case.{computing as checking}
 use Rattle.text.specs.Case.{Case}
-use Rattle.text.proofs.Rows.{rows-of-01, rows-of-103, rows-of-106}
+use Rattle.text.proofs.Rows.{rows-of-01, rows-of-103, rows-of-106, rows-of-102}
 use Rattle.text.proofs.Computing.{computing}
 use Rattle.glsl.specs.declared.Printed.{Printed}
 use Rattle.glsl.specs.declared.Printed.the-variants.{Text, Refused}
@@ -24,7 +24,7 @@ use Rattle.glsl.specs.Joined.{whetherJoined, joinedOutcome}
 
 -- text's table has the rows, with their texts as they are quoted
 abbrev pub rows : List Case
-rows = rows-of-01 ++ rows-of-103 ++ rows-of-106
+rows = rows-of-01 ++ rows-of-103 ++ rows-of-106 ++ rows-of-102
 
 -- a print over some room: its answer, every byte of the room, and the part that is handed back
 pub record Print : Type 0 where
@@ -82,6 +82,7 @@ pub match : (room : List ℕ) → map (promised room) rows ≡ map (claimed room
 unfolding computing checking fitted outcome whetherJoined
 match room = refl
 
--- 14 expressions and 3 units of 01, 17 expressions for #103, each in TIGHT and in OPEN; 15 expressions and a unit for #106, each in EXPORT and in OPEN with byte 21 at 1, and the unit twice more
-pub all-there : length rows ≡ 102
+-- 14 expressions and 3 units of 01, 17 expressions for #103, each in TIGHT and in OPEN; 15 expressions and a unit for #106, each in EXPORT and in OPEN with byte 21 at 1, and the unit
+-- twice more; 5 expressions and a unit for #102, each in TIGHT and in OPEN
+pub all-there : length rows ≡ 114
 all-there = refl

@@ -33,7 +33,7 @@ fn check_root(root: Root, words: &Words, records: &[u8], names: &[u8]) -> Checke
 }
 
 // The text is at the front of the room, or nothing is altered. A text that is too long for the room is the last refusal, and the length that it needs is its place.
-// The table of words is made here, once, for the check and for the printers: to make it takes longer than to print the least unit.
+// The table of words is made here, once, for the check and for the printers: to make it is a good part of what a small print costs.
 fn print_into(root: Root, settings: &[u8], records: &[u8], names: &[u8], room: &mut [u8]) -> Printed
     ensures { λ r. ⌜ Prints (printOutcome root (now (settings .entry)) (now (records .entry)) (now (names .entry)) (now (room .entry))) (rootText root (now (settings .entry)) (now (records .entry)) (now (names .entry))) (now (room .entry)) (now (room .exit)) r ⌝ }
 {

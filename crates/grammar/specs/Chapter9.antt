@@ -1,7 +1,7 @@
 -- Chapter 9 of the GLSL 4.60 specification, for expressions: the nonterminals that `expression` reaches by their names, their productions in its order (each quoted
 -- above its line), and the tree that each makes. `Derives n ts v` says that the nonterminal n derives the tokens ts, and that v is what they mean. A name is an
--- IDENTIFIER, a TYPE_NAME or a FIELD_SELECTION, as the derivation likes. Left out of type_specifier_nonarray are struct_specifier and the type keywords beyond 01's
--- 51: no text of a sound expression holds the words that these begin with (01, "Sound expression": callees, names). Which numbers, names and texts a token may have is
+-- IDENTIFIER, a TYPE_NAME or a FIELD_SELECTION, as the derivation likes. Left out of type_specifier_nonarray are struct_specifier and the type keywords of Vulkan
+-- alone: no text of a sound expression holds the words that these begin with (01, "Sound expression": callees, names). Which numbers, names and texts a token may have is
 -- not asked here, but by lexis (`proper`). Assumes nothing.
 use mathlib.Core.Bool.{Bool}
 use mathlib.Core.List.{List, [], _∷_, _++_}
@@ -250,7 +250,7 @@ pub data Derives : Nonterminal → List Token → Value → Type 0 where
   --     array_specifier LEFT_BRACKET conditional_expression RIGHT_BRACKET
   array·and-sized : {ts us : List Token} {ds : ArraySpecifier} {a : Expr} → Derives array-specifier ts (array ds) → Derives conditional-expression us (expr a) → Derives array-specifier (ts ++ (symbol left-bracket ∷ (us ++ (symbol right-bracket ∷ [])))) (array (last-dimension ds (ExplicitlySized a)))
   -- type_specifier_nonarray
-  --     VOID, FLOAT, .. (one of 01's 51 type keywords)
+  --     VOID, FLOAT, .. (one of the type keywords: 01, and 02, #102)
   nonarray·keyword : (v : ℕ) → Derives type-specifier-nonarray (Token.type v ∷ []) (base (Keyword v))
   --     TYPE_NAME
   nonarray·name : (n : Identifier) → Derives type-specifier-nonarray (name n ∷ []) (base (TypeName n))

@@ -12,6 +12,7 @@ use Rattle.words.specs.Word.{Word, wordText, qualifierWords, jumpWords, boolWor
 use Rattle.words.specs.Symbol.{Symbol, symbolText, unaryOperators, binaryOperators, assignmentOperators}
 use Rattle.words.specs.Keyword.{typeKeywords}
 use Rattle.word_table.specs.Table.{textAt}
+use Rattle.word_table.proofs.Listed.{types-count, first-qualifier, first-jump, first-bool, first-unary, first-binary, first-assignment}
 use Rattle.word_table.proofs.Sections.{type-row, qualifier-row, jump-row, bool-row, unary-row, binary-row, assignment-row}
 use Rattle.records.proofs.Laws.{split}
 use Rattle.settings.specs.declared.Settings.{Settings}
@@ -59,47 +60,47 @@ last-jump zero = refl
 last-jump (suc k) = refl
 
 module _ (v : ℕ) where
-  pub unary-text : textAt (94 + min v 5) ≡ spell (Token.symbol (unary-symbol (unaryOp v)))
+  pub unary-text : textAt (first-unary + min v 5) ≡ spell (Token.symbol (unary-symbol (unaryOp v)))
   unfolding spell unaryOp unaryOperators unary-symbol
   unary-text =
       unary-row (min v 5) (omega arith) Symbol.bang
       ∙ ap (λ (y : Symbol). bytes (symbolText y)) (by-variant (λ k. unary-symbol (unaryOp k)) unaryOperators 5 refl (λ k. refl) v Symbol.bang)
 
-  pub binary-text : textAt (100 + min v 18) ≡ spell (Token.symbol (binary-symbol (binaryOp v)))
+  pub binary-text : textAt (first-binary + min v 18) ≡ spell (Token.symbol (binary-symbol (binaryOp v)))
   unfolding spell binaryOp binaryOperators binary-op
   binary-text =
       binary-row (min v 18) (omega arith) Symbol.bang
       ∙ ap (λ (y : Symbol). bytes (symbolText y)) (by-variant (λ k. binary-symbol (binaryOp k)) binaryOperators 18 refl (λ k. refl) v Symbol.bang)
 
-  pub assignment-text : textAt (119 + min v 10) ≡ spell (Token.symbol (assignment-symbol (assignmentOp v)))
+  pub assignment-text : textAt (first-assignment + min v 10) ≡ spell (Token.symbol (assignment-symbol (assignmentOp v)))
   unfolding spell assignmentOp assignmentOperators assignment-symbol
   assignment-text =
       assignment-row (min v 10) (omega arith) Symbol.bang
       ∙ ap (λ (y : Symbol). bytes (symbolText y)) (by-variant (λ k. assignment-symbol (assignmentOp k)) assignmentOperators 10 refl (λ k. refl) v Symbol.bang)
 
-  pub qualifier-text : textAt (51 + min v 26) ≡ spell (Token.word (qualifierWord v))
+  pub qualifier-text : textAt (first-qualifier + min v 26) ≡ spell (Token.word (qualifierWord v))
   unfolding spell qualifierWord qualifierWords storageOf
   qualifier-text =
       qualifier-row (min v 26) (omega arith) Word.precise
       ∙ ap (λ (w : Word). bytes (wordText w)) (by-variant qualifierWord qualifierWords 26 refl last-qualifier v Word.precise)
 
-  pub jump-text : textAt (78 + min v 3) ≡ spell (Token.word (jumpWord v))
+  pub jump-text : textAt (first-jump + min v 3) ≡ spell (Token.word (jumpWord v))
   unfolding spell jumpWords
   jump-text = jump-row (min v 3) (omega arith) Word.return ∙ ap (λ (w : Word). bytes (wordText w)) (by-variant jumpWord jumpWords 3 refl last-jump v Word.return)
 
 -- a type keyword; behind the last there is none
-pub keyword-text : (v : ℕ) → v < 51 → textAt (0 + min v 50) ≡ spell (Token.type v)
+pub keyword-text : (v : ℕ) → v < types-count → textAt (0 + min v (types-count - 1)) ≡ spell (Token.type v)
 unfolding spell
 keyword-text v h =
-    let z : 0 + min v 50 ≡ v = omega arith in
+    let z : 0 + min v (types-count - 1) ≡ v = omega arith in
     ap textAt z ∙ type-row v h
 
-pub no-keyword : (v : ℕ) → 51 ≤ v → [] ≡ spell (Token.type v)
+pub no-keyword : (v : ℕ) → types-count ≤ v → [] ≡ spell (Token.type v)
 unfolding spell typeKeywords
 no-keyword v h = ap bytes (sym (List·getD-eq-default typeKeywords "" h))
 
 -- the words of a bool
-pub bool-text : (v : ℕ) → v < 2 → textAt (82 + v) ≡ spell (Token.word (bool-word (eqb v 1)))
+pub bool-text : (v : ℕ) → v < 2 → textAt (first-bool + v) ≡ spell (Token.word (bool-word (eqb v 1)))
 unfolding spell boolWords
 bool-text v h = bool-row v h Word.true ∙ ap (λ (w : Word). bytes (wordText w)) (nth (λ k. bool-word (eqb k 1)) 2 0 v Word.true h ∙ ap (λ (k : ℕ). bool-word (eqb k 1)) (zero-add v))
 

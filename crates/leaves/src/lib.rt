@@ -38,7 +38,7 @@ const LAST_QUALIFIER: u8 = 26;
 
 const LAST_JUMP: u8 = 3;
 
-const LAST_TYPE: u8 = 50;
+const LAST_TYPE: u8 = 118;
 
 // What a right operand of plus and minus may bind at most and be bare.
 const BELOW_ADDITIVE: u8 = precedence::ADDITIVE - 1;

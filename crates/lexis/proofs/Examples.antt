@@ -33,12 +33,12 @@ are-no-numbers : everyWord (λ w. not (number-word w)) no-numbers ≡ true
 unfolding everyWord no-numbers number-word integer-constant hexadecimal hexadecimal-rest decimal-or-octal floating-constant behind-whole exponent signed-exponent sign exponent-letter exponent-digits digits behindDigits all same oneOf digit
 are-no-numbers = refl
 
--- names, and words that GLSL lists: a keyword that the printer writes and one that it does not, one of Vulkan's, a reserved one
-are-names : everyWord (λ n. proper (name n)) ("a" ∷ "_" ∷ "gl_Position" ∷ "vec5" ∷ "In" ∷ "main" ∷ []) ≡ true
+-- names, both of 000's misspelt types among them (02, #102), and words that GLSL lists: keywords, one of Vulkan's, reserved ones
+are-names : everyWord (λ n. proper (name n)) ("a" ∷ "_" ∷ "gl_Position" ∷ "vec5" ∷ "In" ∷ "main" ∷ "isampler2MS" ∷ "usamplerDMSArray" ∷ []) ≡ true
 unfolding everyWord proper-where nameForm listed listed-words keywords vulkan-keywords reserved-words all same oneOf digit letter nameByte fixedWords typeKeywords otherWords qualifierWords jumpWords boolWords loneWords wordText
 are-names = refl
 
-are-no-names : everyWord (λ n. not (proper (name n))) ("in" ∷ "vec2" ∷ "image2D" ∷ "texture2D" ∷ "asm" ∷ "" ∷ "2d" ∷ "a-b" ∷ []) ≡ true
+are-no-names : everyWord (λ n. not (proper (name n))) ("in" ∷ "vec2" ∷ "image2D" ∷ "texture2D" ∷ "asm" ∷ "sampler3DRect" ∷ "" ∷ "2d" ∷ "a-b" ∷ []) ≡ true
 unfolding everyWord proper-where nameForm listed listed-words keywords vulkan-keywords reserved-words all same oneOf digit letter nameByte fixedWords typeKeywords otherWords qualifierWords jumpWords boolWords loneWords wordText
 are-no-names = refl
 

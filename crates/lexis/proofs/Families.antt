@@ -1,5 +1,5 @@
--- Section 3.6's words a second time, put together from parts: a letter that is wrong, lost or too many in the list (specs/Keywords) is refused, unless the same slip is made here. What is not here, the
--- first 88 keywords, are words that the printer writes: each of the printer's words is listed (Fixed, `all-listed`), so no letter of these can differ either. Assumes nothing.
+-- Section 3.6's words once more, put together from parts: a letter that is wrong, lost or too many in the list (specs/Keywords) is refused, unless the same slip is made here. What is not here, the
+-- first 88 keywords, are words of the printer, as all keywords are (Keywords), so no letter of these can differ either. Assumes nothing.
 use mathlib.Core.Path.{_≡_, refl}
 use mathlib.Core.Bool.{true, _&&_}
 use mathlib.Core.List.{List, [], _∷_, _++_, map}

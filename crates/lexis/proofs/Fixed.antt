@@ -16,6 +16,7 @@ use Rattle.words.specs.Symbol.{Symbol, symbolText, unaryOperators, binaryOperat
 use Rattle.words.specs.Symbol.Symbol.{left-paren, right-paren, left-bracket, right-bracket, left-brace, right-brace, dot, comma, colon, semicolon, question, inc-op, dec-op, plus, dash, bang, tilde, or-op, xor-op, and-op, vertical-bar, caret, ampersand, eq-op, ne-op, left-angle, right-angle, le-op, ge-op, left-op, right-op, star, slash, percent, equal, mul-assign, div-assign, mod-assign, add-assign, sub-assign, left-assign, right-assign, and-assign, xor-assign, or-assign}
 use Rattle.words.specs.Keyword.{typeKeywords, fixedWords}
 use Rattle.words.proofs.Search.{same-eq, apart}
+use Rattle.word_table.proofs.Listed.{types-count}
 use Rattle.word_table.proofs.Rule.{same-self}
 use Rattle.word_table.proofs.Sections.{type-row, word-apart}
 use Rattle.text.specs.Token.{Token, spell}
@@ -139,11 +140,11 @@ symbol-found xor-assign = refl
 symbol-found or-assign = refl
 
 -- type keywords of one spelling are one
-type-apart : (j k : ℕ) → j < 51 → k < 51 → spell (Token.type j) ≡ spell (Token.type k) → j ≡ k
+type-apart : (j k : ℕ) → j < types-count → k < types-count → spell (Token.type j) ≡ spell (Token.type k) → j ≡ k
 unfolding spell
 type-apart j k hj hk e = word-apart j k (omega arith) (omega arith) (type-row j hj ∙ e ∙ sym (type-row k hk))
 
-found-from : (n v k : ℕ) → v ≤ k → k < v + n → v + n ≤ 51 → find (types-from v n) (spell (Token.type k)) ≡ some (Token.type k)
+found-from : (n v k : ℕ) → v ≤ k → k < v + n → v + n ≤ types-count → find (types-from v n) (spell (Token.type k)) ≡ some (Token.type k)
 unfolding find types-from
 found-from zero v k h i j = absurd (omega arith)
 found-from (suc n) v k h i j = go (same (spell (Token.type v)) (spell (Token.type k))) refl (λ e. found-from n (suc v) k e (omega arith) (omega arith))
@@ -166,7 +167,7 @@ find-append (u ∷ ts) us s t e = go (same (spell u) s) e (find-append ts us s t
 
 pub type-found : (v : ℕ) → ltb v (length typeKeywords) ≡ true → find fixed-tokens (spell (Token.type v)) ≡ some (Token.type v)
 unfolding fixed-tokens typeKeywords
-type-found v h = find-append (types-from 0 51) others (spell (Token.type v)) (Token.type v) (found-from 51 0 v (omega arith) (omega (arith, ltb-true v 51 h)) (omega arith))
+type-found v h = find-append (types-from 0 types-count) others (spell (Token.type v)) (Token.type v) (found-from types-count 0 v (omega arith) (omega (arith, ltb-true v types-count h)) (omega arith))
 
 -- a test of each of them
 unfoldable pub every : (Token → Bool) → List Token → Bool

@@ -14,4 +14,5 @@ pub mod Front
 pub mod Exact
 pub mod Examples
 pub mod Undivided
+pub mod Keywords
 pub mod Families

@@ -4,13 +4,13 @@ ghost use Prim.Native.Nat.{_+_, _<_, _≤_};
 ghost use lib.ListN.{length, take, drop};
 ghost use Rattle.words.specs.Form as Form;
 ghost use Rattle.words.specs.Keyword.{fixedWords};
-ghost use Rattle.word_table.specs.Slot.{byteOrLast, slot};
+ghost use Rattle.word_table.specs.Slot.{byteOrLast, shortSum, longSum, slot};
 ghost use Rattle.word_table.specs.Table as Table;
 use word_table::rows::FLAWS;
 use word_table::rows::SLOTS;
 use word_table::rows::Words;
 
-// How many bytes of a name are looked at in one loop, whose length is constant, so that it compiles to no loop.
+// How many bytes of a name are looked at in one loop, whose length is constant, so that it compiles to no loop. A text that has no more is short.
 const AT_ONCE: usize = 8;
 
 const LONGEST_NAME: usize = 255;
@@ -82,17 +82,38 @@ fn all_name_bytes(table: &Words, s: &[u8]) -> bool
     ok & next_name_bytes(table, s, n - AT_ONCE)
 }
 
-fn slot_of(s: &[u8]) -> usize
-    requires { ⌜ 2 ≤ length (now s) ⌝ }
-    ensures { λ r. ⌜ r ≡ slot (now (s .entry)) ⌝ }
+// What the slot of a short text goes by.
+fn short_sum(s: &[u8]) -> usize
+    requires { ⌜ 0 < length (now s) ⌝ }
+    ensures { λ r. ⌜ r ≡ shortSum (now (s .entry)) ⌝ }
+{
+    let front = 16 * word_table::wide(s[0]) + word_table::wide(byte_or_last(s, 3));
+    let middle = 2 * word_table::wide(byte_or_last(s, 4))
+        + 4 * word_table::wide(byte_or_last(s, 5));
+    let back = 32 * word_table::wide(byte_or_last(s, 6)) + 8 * word_table::wide(byte_or_last(s, 7));
+    front + middle + back
+}
+
+// The same of a long text.
+fn long_sum(s: &[u8]) -> usize
+    requires { ⌜ 8 < length (now s) ⌝ }
+    ensures { λ r. ⌜ r ≡ longSum (now (s .entry)) ⌝ }
 {
     let n = s.len();
-    let front = 16 * (word_table::wide(s[0]) + word_table::wide(byte_or_last(s, 3)));
-    (front
-        + 64 * word_table::wide(s[n - 1])
-        + word_table::wide(s[n - 2])
-        + word_table::wide(byte_or_last(s, 4)))
-        % 512
+    let front = word_table::wide(s[0]) + 8 * word_table::wide(s[1]) + word_table::wide(s[7]);
+    let back = 8 * word_table::wide(s[n - 7]) + 64 * word_table::wide(s[n - 2]);
+    front + back + 204
+}
+
+// By the length as `all_name_bytes` has it, and by bytes that it looks at: what was loaded there need not be loaded again.
+fn slot_of(s: &[u8]) -> usize
+    requires { ⌜ 0 < length (now s) ⌝ }
+    ensures { λ r. ⌜ r ≡ slot (now (s .entry)) ⌝ }
+{
+    if s.len() <= AT_ONCE {
+        return short_sum(s) % 512;
+    }
+    long_sum(s) % 512
 }
 
 // Whether s is a fixed word. Only the word of its slot is compared.

@@ -412,7 +412,7 @@ fn replay_all(bytes: &mut [u8], room: &mut [u8]) {
 }
 
 fn main() {
-    let mut bytes = [0u8; 524288];
+    let mut bytes = [0u8; 655360];
     let mut room = [0u8; 16384];
     replay_all(&mut bytes, &mut room);
     report(3, first_other_constant());

@@ -84,10 +84,10 @@ module _ (t : List ℕ) (p : ℕ) where
 
 -- how many rows there are, and variants at most
 abbrev row-count : ℕ
-row-count = 199
+row-count = 220
 
 abbrev most-variants : ℕ
-most-variants = 51
+most-variants = 119
 
 -- what is read by class and by kind, and what the definitions say
 unfoldable pub heads : List ℕ → List (List ℕ)

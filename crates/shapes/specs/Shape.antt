@@ -69,7 +69,7 @@ rows v =
     ∷ kind 16 0 empty unused (one expr ++ one expr)
     -- type; type keyword, type name, struct; array, dimension, field, identifier
     ∷ kind 20 1 empty unused (one base ++ when (eqb v 1) (one array))
-    ∷ kind 21 50 empty unused []
+    ∷ kind 21 118 empty unused []
     ∷ kind 22 0 name unused []
     ∷ kind 23 1 (cond (eqb v 1) name empty) any (several field)
     ∷ kind 24 0 empty positive (several dimension)

@@ -16,10 +16,10 @@ abbrev pub first-row : ℕ
 first-row = 512
 
 abbrev pub first-class-row : ℕ
-first-class-row = 2104
+first-class-row = 2272
 
 abbrev pub cells : ℕ
-cells = 2360
+cells = 2528
 
 abbrev pub row-size : ℕ
 row-size = 8

@@ -1,6 +1,6 @@
 // The shapes of the records, by kind and variant, and what a place allows: document 01's table as constant bytes.
-// A public call of a crate above makes the table once, `let t = shapes::table();`, and lends it down, `&t`: a constant array that is indexed
-// in place would be built anew at each use.
+// Whoever walks records makes the table once, `let t = shapes::table();`, and lends it down, `&t`: a constant array that is indexed in place would
+// be built anew at each use.
 ghost use mathlib.Core.Path.{_≡_};
 ghost use Prim.Native.Nat.{_+_, _<_};
 ghost use Rattle.shapes.specs.Class.{takesKind, takesVariant};

@@ -1,4 +1,4 @@
--- Document 01's texts to match, those of #103 and #106, and some of our own, from the bytes of the records: one table, one theorem, by computation. Assumes nothing.
+-- Document 01's texts to match, those of #103, #106 and #102, and some of our own, from the bytes of the records: one table, one theorem, by computation. Assumes nothing.
 use Prim.Native.Nat.{ℕ}
 use Prim.Native.String.{String}
 use mathlib.Core.Path.{_≡_, refl}
@@ -164,6 +164,22 @@ rows-of-106 =
     ++ unitIn (TIGHT ++ 0 ∷ []) returns-minus-dec "fa" "void f(){return ---a;}"
     ++ unitIn (OPEN ++ 0 ∷ []) returns-minus-dec "fa" "void f() {\n    return ---a;\n}\n"
 
+-- 02, #102: the first and the last of the new type words; the two that 000 misspells, and a name that is spelt as 000 spells the first of them; an image in a declaration
+abbrev type-call : ℕ → List ℕ
+type-call v = many 12 0 ++ keyword v
+
+abbrev uniform : ℕ → List ℕ
+uniform a = plain 47 1 ++ plain 42 0 ++ named 43 1 a ++ plain 31 1 ++ many 28 1 ++ plain 29 7
+
+abbrev pub rows-of-102 : List Case
+rows-of-102 =
+    expr (type-call 51) "" "sampler1D()" "sampler1D()" false
+    ++ expr (type-call 118) "" "uimageBuffer()" "uimageBuffer()" false
+    ++ expr (type-call 69) "" "isampler2DMS()" "isampler2DMS()" false
+    ++ expr (type-call 73) "" "usampler2DMSArray()" "usampler2DMSArray()" false
+    ++ expr (many 12 0 ++ rec 1 0 0 0 11) "isampler2MS" "isampler2MS()" "isampler2MS()" false
+    ++ unit (many 80 1 ++ uniform 0 ++ keyword 92) "x" "uniform image2D x;" "uniform image2D x;"
+
 -- what no row of document 01 sees: a flush, collapse, nested blocks (texts of the Rust module)
 abbrev if-else : List ℕ
 if-else = many 80 1 ++ function 0 ++ block 1 ++ plain 62 1 ++ var 1 ++ block 1 ++ return ++ block 1 ++ return
@@ -182,7 +198,7 @@ our-rows =
     ++ unit nested-structs "sSxt" "struct S{struct {float x;} t;} s;" "struct S {\n    struct  {\n        float x;\n    } t;\n} s;"
 
 abbrev pub rows : List Case
-rows = rows-of-01 ++ rows-of-103 ++ rows-of-106 ++ our-rows
+rows = rows-of-01 ++ rows-of-103 ++ rows-of-106 ++ rows-of-102 ++ our-rows
 
 -- the definition gives each row's outcome
 pub match : map defined rows ≡ map (λ c. c .outcome) rows

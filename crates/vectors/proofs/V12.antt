@@ -1,4 +1,4 @@
--- Texts of the Rust module and of the oracle's second printer. Made by tools/vectors.py. Assumes nothing.
+-- Texts of the Rust module, two words mended, and of the oracle's second printer. Made by tools/vectors.py. Assumes nothing.
 use mathlib.Core.Path.{refl}
 use Rattle.text.specs.Case.{defined}
 use Rattle.text.proofs.Computing.{computing}

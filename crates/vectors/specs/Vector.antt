@@ -1,5 +1,5 @@
--- What a vector says: the text of the definition is the Rust module's, the tree read at record 0 takes all records, and the joined question has the
--- oracle's answer. Assumes nothing.
+-- What a vector says: the text of the definition is the Rust module's (two of its words mended, 02, #102; with byte 21 at 1 that of the oracle's second printer), the tree read at
+-- record 0 takes all records, and the joined question has the oracle's answer. Assumes nothing.
 use mathlib.Core.Path.{_≡_}
 use mathlib.Core.Bool.{Bool, true, false, cond}
 use mathlib.Core.List.{List, [], _∷_}

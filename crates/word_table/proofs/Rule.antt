@@ -1,5 +1,5 @@
--- The rule of the table: a computed test of all its words, and the laws that make of a test what holds at each row. The fixed words have the form of words;
--- the texts of a section that passes `different` are different. (That no text is longer than the widest is `text-fits` of Places.) Assumes nothing.
+-- The rule of the table (02, #102), and the laws that make of it what holds at each row: the fixed words, type keywords and all others, have the form of words, none is longer
+-- than the widest, and all are different. Likewise the texts of a section that passes `different`. (That no operator is longer than the widest either is `text-fits` of Places.) Assumes nothing.
 use mathlib.Core.Path.{_≡_, refl, sym, _∙_, ap, subst}
 use mathlib.Core.Bool.{Bool, true, false, not, _&&_}
 use mathlib.Core.List.{List, [], _∷_}
@@ -22,9 +22,21 @@ use Rattle.words.proofs.Tests.{both-left, both-right, either-left, either-right
 unfoldable pub wordForm : List ℕ → Bool
 wordForm s = between 2 widest (length s) && not (digit (getD s 0 0)) && all nameByte s
 
+-- each different from all behind it
+unfoldable pub different : List String → Bool
+different [] = true
+different (w ∷ ws) = not (oneOf ws (bytes w)) && different ws
+
+-- one computed test of all of them
+pub rule : T (everyWord wordForm fixedWords && different fixedWords)
+unfolding everyWord wordForm digit letter nameByte all different oneOf same fixedWords typeKeywords otherWords qualifierWords jumpWords boolWords loneWords wordText
+rule = tt
+
 words-well-formed : T (everyWord wordForm fixedWords)
-unfolding everyWord wordForm digit letter nameByte all fixedWords typeKeywords otherWords qualifierWords jumpWords boolWords loneWords wordText
-words-well-formed = tt
+words-well-formed = both-left (everyWord wordForm fixedWords) (different fixedWords) rule
+
+pub words-different : T (different fixedWords)
+words-different = both-right (everyWord wordForm fixedWords) (different fixedWords) rule
 
 every-at : (f : List ℕ → Bool) (ws : List String) → T (everyWord f ws) → (k : ℕ) → k < length ws → T (f (bytes (getD ws k "")))
 unfolding everyWord
@@ -40,11 +52,6 @@ well-formed = every-at wordForm fixedWords words-well-formed
 pub none-short : (s : List ℕ) → length s < 2 → oneOf fixedWords s ≡ false
 unfolding wordForm
 none-short s h = none-of wordForm fixedWords s words-well-formed (simp (lt-leb 2 (length s) h))
-
--- each different from all behind it
-unfoldable pub different : List String → Bool
-different [] = true
-different (w ∷ ws) = not (oneOf ws (bytes w)) && different ws
 
 pub same-self : (s : List ℕ) → T (same s s)
 unfolding same

@@ -4,7 +4,7 @@ use mathlib.Core.List.{List, [], _∷_, map}
 use Prim.Native.Nat.{ℕ, zero, suc, _+_, _-_, _*_, _%_}
 use Prim.Native.String.{String}
 use lib.ListN.{length, getD}
-use lib.Dec.{ltb, eqb}
+use lib.Dec.{leb, ltb, eqb}
 use Rattle.words.specs.Bytes.{bytes}
 
 -- the byte i of a text, or its last
@@ -14,13 +14,20 @@ byteOrLast s i = getD s (cond (ltb i (length s - 1)) i (length s - 1)) 0
 abbrev pub slot-count : ℕ
 slot-count = 512
 
--- a text's slot (any other choice would do: by this one no two fixed words meet)
+-- a text's slot: a sum of some of its bytes with factors, others for a short text, of 8 bytes at most, than for a long one (any other choice would do: by this one
+-- no two fixed words meet)
+abbrev pub shortSum : List ℕ → ℕ
+shortSum s = 16 * getD s 0 0 + byteOrLast s 3 + (2 * byteOrLast s 4 + 4 * byteOrLast s 5) + (32 * byteOrLast s 6 + 8 * byteOrLast s 7)
+
+abbrev pub longSum : List ℕ → ℕ
+longSum s = getD s 0 0 + 8 * getD s 1 0 + getD s 7 0 + (8 * getD s (length s - 7) 0 + 64 * getD s (length s - 2) 0) + 204
+
 abbrev pub slot : List ℕ → ℕ
-slot s = (16 * (getD s 0 0 + byteOrLast s 3) + 64 * getD s (length s - 1) 0 + getD s (length s - 2) 0 + byteOrLast s 4) % slot-count
+slot s = cond (leb (length s) 8) (shortSum s) (longSum s) % slot-count
 
 -- the row of an empty slot: that of `+`, which no text of two bytes or more is
 abbrev pub no-word : ℕ
-no-word = 96
+no-word = 164
 
 -- the slot of each word
 unfoldable pub slotsOf : List String → List ℕ

@@ -1,5 +1,5 @@
 -- The constant table of words and operators: one row each, at a fixed width, with its length (01, "Forms to follow": "a constant table of 51
--- words"); and what tells a name from a word, behind the rows. Only promises between the code's functions cite this file. Assumes nothing.
+-- words", and 68 more since 02, #102); and what tells a name from a word, behind the rows. Only promises between the code's functions cite this file. Assumes nothing.
 use mathlib.Core.Bool.{cond}
 use mathlib.Core.List.{List, [], _∷_, _++_, map}
 use Prim.Native.Nat.{ℕ, _-_}

@@ -10,11 +10,11 @@ use Rattle.words.specs.Keyword.{typeKeywords, fixedWords}
 use Rattle.words.specs.Form.{digit, letter, nameByte, all, same, oneOf, nameForm, digits, behindDigits, wholePart, fraction, nothingOrFraction, floatForm}
 use Rattle.words.proofs.Search.{everyWord}
 
-names-taken : T (everyWord nameForm ("x" ∷ "_1" ∷ "voids" ∷ "Void" ∷ "lf" ∷ "u" ∷ "_" ∷ "gl_Position" ∷ []))
+names-taken : T (everyWord nameForm ("x" ∷ "_1" ∷ "voids" ∷ "Void" ∷ "lf" ∷ "u" ∷ "_" ∷ "gl_Position" ∷ "texture2D" ∷ "sampler3DRect" ∷ "isampler2MS" ∷ "usamplerDMSArray" ∷ []))
 unfolding everyWord nameForm digit letter nameByte all same oneOf fixedWords typeKeywords otherWords qualifierWords jumpWords boolWords loneWords wordText
 names-taken = tt
 
-names-refused : T (everyWord (λ s. not (nameForm s)) ("" ∷ "1a" ∷ "a b" ∷ "a-b" ∷ "void" ∷ "do" ∷ "true" ∷ "false" ∷ "sampler2DShadow" ∷ "centroid" ∷ "noperspective" ∷ []))
+names-refused : T (everyWord (λ s. not (nameForm s)) ("" ∷ "1a" ∷ "a b" ∷ "a-b" ∷ "void" ∷ "do" ∷ "true" ∷ "false" ∷ "sampler2DShadow" ∷ "image2D" ∷ "uimageBuffer" ∷ "centroid" ∷ "noperspective" ∷ []))
 unfolding everyWord nameForm digit letter nameByte all same oneOf fixedWords typeKeywords otherWords qualifierWords jumpWords boolWords loneWords wordText
 names-refused = tt
 

@@ -2,6 +2,7 @@
 
 use crate::library::{Check, Print};
 use oracle::answer::{answer, Outcome, Question};
+use oracle::mended::Counts;
 use oracle::read;
 use oracle::record::SIZE;
 use oracle::refusal::Refusal;
@@ -20,6 +21,8 @@ pub struct Said {
     pub joined: Option<bool>,
     /// How many needed spaces are in the text that was compared.
     pub needed: usize,
+    /// How often each keyword is mended in it that the Rust module misspells.
+    pub mended: Counts,
     /// Prints into a room that fits, a larger one, and one that is a byte too small.
     pub rooms: [u64; 3],
     /// Where they differ first: the oracle's answer and the library's.
@@ -103,7 +106,7 @@ pub fn print(library: Print, joined: Check, question: &Question) -> Said {
         Outcome::Given(text) => {
             let (text, length) = (text.as_bytes(), text.len());
             said.is_good = true;
-            said.needed = answer.needed;
+            (said.needed, said.mended) = (answer.needed, answer.mended);
             for room in [length, length + 7] {
                 said.print(library, question, room, Code::given(length), text);
             }
@@ -152,7 +155,7 @@ mod tests {
     use super::*;
     use oracle::answer::Root;
     use oracle::cases::{tight, with_spaces};
-    use oracle::tree::{all, plain, var};
+    use oracle::tree::{all, keyword, many, plain, var};
 
     /// `a--b`, which is joined.
     fn question() -> Question {
@@ -198,6 +201,13 @@ mod tests {
         assert_eq!([export.needed, open.needed], [1, 0]);
         // The printer knows nothing of them.
         assert!(export.difference.is_some() && open.difference.is_some());
+    }
+
+    #[test]
+    fn mended_keywords_are_counted() {
+        let call = |variant| tight(Root::Expr, all(&[&many(12, 0), &keyword(variant)]), "");
+        let said = [2, 69, 73].map(|variant| print(print_well, |_| 0, &call(variant)));
+        assert_eq!(said.map(|said| said.mended), [[0, 0], [1, 0], [0, 1]]);
     }
 
     #[test]

@@ -7,6 +7,7 @@ use oracle::grow;
 use oracle::line;
 use oracle::random::Random;
 use oracle::settings;
+use oracle::tables::MISSPELT;
 use std::collections::BTreeMap;
 
 /// Grown trees from which the smallest ones with each kind and variant are taken.
@@ -35,6 +36,9 @@ struct Tally {
     joined: [u64; 2],
     /// Questions whose text has needed spaces.
     spaced: u64,
+    /// Questions in whose text a keyword is mended that the Rust module misspells, and those of each keyword.
+    mended: u64,
+    keywords: [u64; MISSPELT.len()],
     /// Prints into a room that fits, a larger one, and one that is a byte too small.
     rooms: [u64; 3],
     differing: u64,
@@ -51,6 +55,9 @@ impl Tally {
             self.joined[usize::from(is_joined)] += 1;
         }
         self.spaced += u64::from(said.needed > 0);
+        let keywords = said.mended.map(|count| u64::from(count > 0));
+        self.mended += u64::from(keywords.contains(&1));
+        add(&mut self.keywords, &keywords);
         let Some(difference) = said.difference else {
             return;
         };
@@ -66,6 +73,8 @@ impl Tally {
         self.questions += other.questions;
         self.differing += other.differing;
         self.spaced += other.spaced;
+        self.mended += other.mended;
+        add(&mut self.keywords, &other.keywords);
         add(&mut self.calls, &other.calls);
         add(&mut self.joined, &other.joined);
         add(&mut self.rooms, &other.rooms);
@@ -75,7 +84,8 @@ impl Tally {
     fn print(&self, name: &str) {
         let calls: u64 = self.calls.iter().sum();
         let [no, yes] = self.joined;
-        let columns = [self.questions, calls, self.differing, no, yes, self.spaced].into_iter().chain(self.calls);
+        let columns = [self.questions, calls, self.differing, no, yes, self.spaced, self.mended];
+        let columns = columns.into_iter().chain(self.calls);
         println!("{name:<18}{}", columns.map(|count| format!("{count:>9}")).collect::<String>());
         if let Some((question, [oracle, library])) = &self.shortest {
             // As `oracle answer` reads it.
@@ -93,8 +103,8 @@ fn add(sums: &mut [u64], counts: &[u64]) {
 
 /// The line above the tallies'.
 fn heading(root: Root) -> String {
-    let columns = ["asked", "calls", "differ", "apart", "joined", "spaced", "good"].into_iter().map(str::to_owned);
-    let columns = columns.chain((1..NUMBERS).map(|number| number.to_string()));
+    let columns = ["asked", "calls", "differ", "apart", "joined", "spaced", "mended", "good"];
+    let columns = columns.into_iter().map(str::to_owned).chain((1..NUMBERS).map(|number| number.to_string()));
     format!("{:<18}{}", format!("{root:?} questions"), columns.map(|word| format!("{word:>9}")).collect::<String>())
 }
 
@@ -166,9 +176,20 @@ fn is_spaced(texts: u64) -> bool {
     texts > 0
 }
 
+/// Prints how many texts had each keyword that is mended. Whether each had some.
+fn are_mended(texts: [u64; MISSPELT.len()]) -> bool {
+    let shown = MISSPELT.iter().zip(texts).map(|((keyword, _), count)| format!("{count} have {keyword}"));
+    println!("texts in which a keyword is mended: {}", shown.collect::<Vec<_>>().join(", "));
+    let all = !texts.contains(&0);
+    if !all {
+        println!("    but each must be met");
+    }
+    all
+}
+
 /// Asks everything with this root; prints a line for each family, the sum, and the shortest question of each family that
 /// differs. Whether nothing differs, every kind and variant, and every value of every settings byte, was met in good trees,
-/// expressions in which signs meet were joined as well as apart, and needed spaces were printed.
+/// expressions in which signs meet were joined as well as apart, needed spaces were printed, and each keyword that is mended.
 pub fn run(root: Root, seed: u64, cases: u64, ask: impl Fn(&Question) -> Said) -> bool {
     let trees = cover::smallest(root, seed, GROWN_TO_CHOOSE);
     let words = limits::near_words();
@@ -202,7 +223,8 @@ pub fn run(root: Root, seed: u64, cases: u64, ask: impl Fn(&Question) -> Said) -
     let is_asked = is_printed && root == Root::Expr;
     let both_ways = !is_asked || is_joined_both_ways(signs);
     let spaced = !is_printed || is_spaced(all.spaced);
-    met.print(is_printed) && both_ways && spaced && all.differing == 0
+    let mended = !is_printed || are_mended(all.keywords);
+    met.print(is_printed) && both_ways && spaced && mended && all.differing == 0
 }
 
 /// All questions, with other roots too. `trees` show every kind and variant. Settings of 22 bytes are among those of grown trees
@@ -318,6 +340,12 @@ mod tests {
     #[test]
     fn texts_without_needed_spaces_are_too_few() {
         assert!(is_spaced(1) && !is_spaced(0));
+    }
+
+    #[test]
+    fn texts_without_either_mended_keyword_are_too_few() {
+        assert!(are_mended([1, 1]));
+        assert!([[0, 0], [1, 0], [0, 1]].into_iter().all(|texts| !are_mended(texts)));
     }
 
     #[test]

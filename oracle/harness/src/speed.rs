@@ -148,10 +148,7 @@ pub fn run(seed: u64, before: Option<Loaded>) -> Result<(), Refusal> {
     }
     table("Numbers", &calls(Root::Expr, before)?, &numbers(seed)?);
     println!();
-    if library::CHECK.is_some() {
-        names(seed)?;
-    }
-    Ok(())
+    names(seed, before)
 }
 
 /// Prints a table of times.
@@ -170,8 +167,9 @@ fn sorts(root: Root, seed: u64) -> Result<Vec<Sort>, Refusal> {
         Root::Unit => many(80, 0),
         Root::Expr => var(0),
     };
+    let grown = seeds.clone().map(|seed| with_first_keywords(large::grown(root, seed, RECORDS)));
     let mut sorts = vec![
-        Sort::new("grown", seeds.clone().map(|seed| large::grown(root, seed, RECORDS)))?,
+        Sort::new("grown", grown)?,
         Sort::new("like a shader's", seeds.clone().map(|seed| large::shader(root, seed, RECORDS)))?,
         Sort::new("the least", [tight(root, least, "x")])?,
     ];
@@ -181,6 +179,17 @@ fn sorts(root: Root, seed: u64) -> Result<Vec<Sort>, Refusal> {
         sorts.push(Sort::new("many arguments", seeds.flat_map(|seed| large::atoms(seed, &names)))?);
     }
     Ok(sorts)
+}
+
+/// The tree with type keywords of document 01 alone: another build may not know those of request #102.
+fn with_first_keywords(mut tree: Question) -> Question {
+    for [kind, variant, ..] in tree.records.as_chunks_mut::<SIZE>().0 {
+        if *kind == 21 {
+            // They are few.
+            *variant %= words::FIRST_KEYWORDS as u8;
+        }
+    }
+    tree
 }
 
 /// Calls with whole numbers alone: of each length of 1 to 10 digits, of all these lengths, the same below 0 and unsigned, and
@@ -214,24 +223,35 @@ fn stacks(root: Root, calls: &[Call]) -> Result<String, Refusal> {
     Ok(most.map(|bytes| format!("{bytes:>14}")).collect())
 }
 
-/// Prints what a name costs in the record check, which is the first call.
-fn names(seed: u64) -> Result<(), Refusal> {
+/// The calls that write no text. The joined question checks the records too, and it is all that another build has of these.
+const WITHOUT_TEXT: [&str; 3] = ["check", "joined", "before joined"];
+
+/// Prints what a name costs in the record check and in the joined question, also of another build if there is one.
+fn names(seed: u64, before: Option<Loaded>) -> Result<(), Refusal> {
+    let mut calls = calls(Root::Expr, before)?;
+    calls.retain(|call| WITHOUT_TEXT.contains(&call.name));
+    if calls.is_empty() {
+        return Ok(());
+    }
     let [_, bools] = large::atoms(seed, &[b"x".to_vec()]);
     let mut sorts = vec![Sort::new("a bool", [bools])?];
     for (name, texts) in names_by_sort(seed) {
         let [variables, _] = large::atoms(seed, &texts);
         sorts.push(Sort::new(name, [variables])?);
     }
-    let least = least(&calls(Root::Expr, None)?[..1], &sorts);
-    println!("ns a name in the check, beyond a bool in its place");
+    let least = least(&calls, &sorts);
+    println!("ns a name, beyond a bool in its place");
+    println!("{:<20}{}", "", calls.iter().map(|call| format!("{:>14}", call.name)).collect::<String>());
     for (sort, times) in sorts.iter().zip(&least).skip(1) {
-        let beyond = (times[0] - least[0][0]) * sort.records() as f64 / f64::from(large::ATOMS);
-        println!("{:<20}{beyond:>12.1}", sort.name);
+        let records = sort.records() as f64 / f64::from(large::ATOMS);
+        let beyond = times.iter().zip(&least[0]).map(|(time, bool)| format!("{:>14.1}", (time - bool) * records));
+        println!("{:<20}{}", sort.name, beyond.collect::<String>());
     }
     Ok(())
 }
 
-/// Names of each length of 1 to 12, of all these lengths, longer ones, a shader's, and names that nearly are fixed words.
+/// Names of each length of 1 to 12, of all these lengths, longer ones, a shader's, names that nearly are fixed words, and names
+/// like those of opaque types. What is a name now was one before request #102 too, so another build takes all of them.
 fn names_by_sort(seed: u64) -> Vec<(String, Vec<Vec<u8>>)> {
     let mut random = Random::new(seed, 0);
     let mut of_length = |least, most| (0..NAMES).map(|_| name(&mut random, least, most)).collect();
@@ -239,8 +259,12 @@ fn names_by_sort(seed: u64) -> Vec<(String, Vec<Vec<u8>>)> {
     names.push(("lengths 1 to 12".to_owned(), of_length(1, 12)));
     names.push(("13 to 40".to_owned(), of_length(13, 40)));
     names.push(("a shader's".to_owned(), large::shader_names()));
-    let near = limits::near_words().into_iter().filter(|word| words::is_name(word)).collect();
-    names.push(("near words".to_owned(), near));
+    let are_names = |words: Vec<Vec<u8>>| words.into_iter().filter(|word| words::is_name(word));
+    // Every second one: all are longer than the names of a tree can be.
+    names.push(("near words".to_owned(), are_names(limits::near_words()).step_by(2).collect()));
+    names.push(("near the first 94".to_owned(), are_names(limits::near_first_words()).collect()));
+    let like_opaque = limits::LIKE_OPAQUE_TYPES.map(|word| word.as_bytes().to_vec());
+    names.push(("like opaque types".to_owned(), like_opaque.to_vec()));
     names
 }
 
@@ -251,6 +275,31 @@ fn name(random: &mut Random, least: usize, most: usize) -> Vec<u8> {
         let text: Vec<u8> = (0..length).map(|_| b'a' + random.byte(25)).collect();
         if words::is_name(&text) {
             return text;
+        }
+    }
+}
+
+#[cfg(test)]
+mod tests {
+    use super::*;
+    use oracle::cases::cover;
+
+    /// Each sort is as many names as a tree can hold, and none is a word.
+    #[test]
+    fn names_are_good() {
+        for (sort, texts) in names_by_sort(1) {
+            let [variables, _] = large::atoms(1, &texts);
+            assert_eq!(read::refusal(&variables), None, "{sort}");
+        }
+    }
+
+    #[test]
+    fn grown_trees_have_first_keywords_alone() {
+        for root in ROOTS {
+            for sample in sorts(root, 1).expect("good trees").iter().flat_map(|sort| &sort.samples) {
+                let mut keywords = cover::records(&sample.tight).filter(|record| record.kind == 21);
+                assert!(keywords.all(|record| usize::from(record.variant) < words::FIRST_KEYWORDS));
+            }
         }
     }
 }

@@ -54,7 +54,7 @@ mod tests {
 
     #[test]
     fn every_kind_and_variant_is_there_and_trees_are_small() {
-        for (root, count) in [(Root::Unit, 198), (Root::Expr, 144)] {
+        for (root, count) in [(Root::Unit, 266), (Root::Expr, 212)] {
             let trees = smallest(root, 1, 60_000);
             let seen: BTreeSet<(u8, u8)> = trees.iter().flat_map(records).map(|r| (r.kind, r.variant)).collect();
             assert_eq!(seen, pairs(root).collect());

@@ -7,9 +7,9 @@ use crate::words;
 
 /// Bytes that are worth trying wherever all 256 are too many: small numbers, the ends of the kinds' ranges and of the
 /// variants' ranges, bits, and what texts are made of.
-pub const BYTES: [u8; 40] = [
+pub const BYTES: [u8; 41] = [
     0, 1, 2, 3, 4, 5, 6, 7, 8, 10, 11, 12, 16, 17, 18, 19, 20, 21, 22, 24, 26, 27, 28, 29, 31, 40, 45, b'.', b'0', 47,
-    50, 60, 61, 68, b'A', 80, b'_', b'a', 128, 255,
+    60, 61, 68, b'A', 80, b'_', b'a', 118, 119, 128, 255,
 ];
 
 /// Numbers for a, b and the count: small ones, powers of two, the limits' neighbours and the last of all.
@@ -168,7 +168,7 @@ pub fn once(base: &Question, random: &mut Random) -> Question {
     match random.byte(11) {
         0 => records[start] = random.byte(81),
         1 => records[start] = random.byte(255),
-        2 => records[start + 1] = random.byte(50),
+        2 => records[start + 1] = random.byte(119),
         3 => records[start + 2] = random.byte(3),
         4 => records[random.between(start, end - 1)] = random.byte(255),
         5 => records[start + 4 + 4 * random.between(0, 1)] = random.byte(60),

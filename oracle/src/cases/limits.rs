@@ -8,6 +8,7 @@ use crate::refusal::Reason;
 use crate::settings;
 use crate::tree::{all, declared, function, int, keyword, many, named, plain, rec, var};
 use crate::words;
+use std::collections::BTreeSet;
 
 /// The names of the trees that are about something else.
 const NAMES: &str = "x";
@@ -305,29 +306,64 @@ fn words_over(letters: &'static [u8], length: u32) -> impl Iterator<Item = Vec<u
     (0..count.pow(length)).map(move |number| (0..length).map(|at| letters[number / count.pow(at) % count]).collect())
 }
 
-/// Every fixed word, and what is nearly one: longer, shorter, in other letters, with any one byte changed by one; and
-/// words that are none of the printer's.
+/// Names that look like sampler and image types and are none: Vulkan's words and one for future use, both misspellings of the
+/// Rust module (02, #102), and what a shader may call its own.
+pub const LIKE_OPAQUE_TYPES: [&str; 24] = [
+    "isampler2MS",
+    "usamplerDMSArray",
+    "sampler",
+    "samplerShadow",
+    "sampler3DRect",
+    "texture",
+    "texture2D",
+    "utexture2DMSArray",
+    "textureBuffer",
+    "subpassInput",
+    "sampler4D",
+    "image4D",
+    "image2D_",
+    "image2DShadow",
+    "iimage",
+    "uimage2DArrayMS",
+    "imageSize",
+    "imageLoad",
+    "imageStore",
+    "imageColor",
+    "samplerLight",
+    "samplerCubeMap",
+    "shadowSampler",
+    "usamplerBuffers",
+];
+
+/// Every fixed word, and what is nearly one; and words that are none of the printer's.
 pub fn near_words() -> Vec<Vec<u8>> {
-    const OTHERS: [&str; 16] = [
+    const OTHERS: [&str; 12] = [
         "lf",
         "u",
         "define",
         "version",
         "main",
         "gl_Position",
-        "sampler1D",
-        "isampler2D",
-        "image2D",
         "goto",
         "static",
         "common",
         "partition",
         "active",
         "mat5",
-        "texture",
     ];
-    let words = words::TYPE_KEYWORDS.iter().chain(&words::OTHER_WORDS);
-    let near = words.flat_map(|word| {
+    let others = OTHERS.iter().chain(&LIKE_OPAQUE_TYPES).map(|word| word.as_bytes().to_vec());
+    near(&words::TYPE_KEYWORDS).chain(others).collect::<BTreeSet<_>>().into_iter().collect()
+}
+
+/// The fixed words that there were before request #102, and what is nearly one.
+pub fn near_first_words() -> Vec<Vec<u8>> {
+    near(&words::TYPE_KEYWORDS[..words::FIRST_KEYWORDS]).collect::<BTreeSet<_>>().into_iter().collect()
+}
+
+/// Fixed words, with these as type keywords, and what is nearly one: longer, shorter, in other letters, with any one byte
+/// changed by one.
+fn near<'w>(type_keywords: &'w [&str]) -> impl Iterator<Item = Vec<u8>> + 'w {
+    type_keywords.iter().chain(&words::OTHER_WORDS).flat_map(|word| {
         let word = word.as_bytes();
         let changed = (0..word.len()).flat_map(move |at| {
             [1, 255, 32].map(|step: u8| {
@@ -341,11 +377,7 @@ pub fn near_words() -> Vec<Vec<u8>> {
         let reversed = word.iter().rev().copied().collect();
         let others = [word.to_vec(), word[1..].to_vec(), word[..word.len() - 1].to_vec(), doubled, reversed];
         others.into_iter().chain([word.to_ascii_uppercase(), [b"_", word].concat()]).chain(longer).chain(changed)
-    });
-    let mut all: Vec<Vec<u8>> = near.chain(OTHERS.map(|word| word.as_bytes().to_vec())).collect();
-    all.sort_unstable();
-    all.dedup();
-    all
+    })
 }
 
 /// A text at every offset and of every length around the end of the names, and where a + b is beyond 32 bits.
@@ -368,6 +400,7 @@ pub fn offsets() -> impl Iterator<Item = Question> {
 mod tests {
     use super::*;
     use crate::answer::{answer, Outcome};
+    use crate::tables::MISSPELT;
     use std::collections::BTreeMap;
 
     /// How often each refusal's number comes up, 0 for none.
@@ -437,7 +470,7 @@ mod tests {
 
     #[test]
     fn whole_numbers_have_every_length() {
-        let texts: std::collections::BTreeSet<String> = whole_numbers()
+        let texts: BTreeSet<String> = whole_numbers()
             .map(|question| match answer(&question).text {
                 Outcome::Given(text) => text,
                 other => panic!("{other:?}"),
@@ -465,9 +498,19 @@ mod tests {
 
     #[test]
     fn near_words_hold_all_fixed_words() {
-        let near = near_words();
-        let fixed = near.iter().filter(|word| words::is_fixed_word(word)).count();
-        assert_eq!(fixed, words::TYPE_KEYWORDS.len() + words::OTHER_WORDS.len());
-        assert!(near.iter().filter(|word| words::is_name(word)).count() > 1_000);
+        let fixed = |near: &[Vec<u8>]| near.iter().filter(|word| words::is_fixed_word(word)).count();
+        let names = |near: &[Vec<u8>]| near.iter().filter(|word| words::is_name(word)).count();
+        let (near, first) = (near_words(), near_first_words());
+        assert_eq!(fixed(&near), words::TYPE_KEYWORDS.len() + words::OTHER_WORDS.len());
+        assert!(names(&near) > 2_000 && names(&first) > 1_000);
+        assert!(first.iter().all(|word| near.contains(word)));
+        // Beside their own 94 they have words of #102, such as sampler1D, which is near sampler2D.
+        assert!(fixed(&first) >= 94 && first.contains(&b"sampler1D".to_vec()));
+    }
+
+    #[test]
+    fn names_like_opaque_types_are_names() {
+        assert!(LIKE_OPAQUE_TYPES.iter().all(|word| words::is_name(word.as_bytes())));
+        assert!(MISSPELT.iter().all(|(_, misspelt)| LIKE_OPAQUE_TYPES.contains(misspelt)));
     }
 }

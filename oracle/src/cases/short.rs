@@ -193,6 +193,6 @@ mod tests {
 
     #[test]
     fn good_records_are_those_of_the_table() {
-        assert_eq!(good_records().len(), 3 * 198);
+        assert_eq!(good_records().len(), 3 * 266);
     }
 }

@@ -5,8 +5,12 @@ use crate::words::{self, is_name, LONGEST_NAME};
 
 const FIRST: &[u8] = b"abcdefghijklmnopqrstuvwxyzABCDEFGHIJKLMNOPQRSTUVWXYZ_";
 const LATER: &[u8] = b"abcdefghijklmnopqrstuvwxyzABCDEFGHIJKLMNOPQRSTUVWXYZ_0123456789";
-/// Names that a printer might take for words of its own.
-const CLOSE_TO_WORDS: [&str; 8] = ["lf", "u", "If", "ints", "sampler1D", "define", "gl_Position", "_"];
+/// Names that a printer might take for words of its own. (The Rust module misspells two type keywords so, 02, #102.)
+#[rustfmt::skip]
+const CLOSE_TO_WORDS: [&str; 14] = [
+    "lf", "u", "If", "ints", "define", "gl_Position", "_",
+    "isampler2MS", "usamplerDMSArray", "image4D", "sampler3DRect", "texture2D", "sampler", "subpassInput",
+];
 
 /// A value whose text is Display's.
 trait Float: std::fmt::Display + Copy {

@@ -22,7 +22,7 @@ impl Grower {
             Some(22) => self.put_named(22, 0, 0),
             Some(23) => self.structure(room - 1),
             _ => {
-                let keyword = self.random.byte(50);
+                let keyword = self.random.byte(118);
                 self.put(21, keyword, 0);
             }
         }

@@ -1,8 +1,8 @@
 //! The tokens of a unit or of an expression: a second, small printer from document 01's words, which writes no blanks, but says
 //! where each token ends and where one would join the token before it (02, #103).
 //!
-//! Its text has to be the Rust module's without blanks; whoever uses it compares them. A negative IntConst is two tokens, its
-//! sign and its digits (02, #107).
+//! Its text has to be the Rust module's without blanks, but for two type keywords that the module misspells (02, #102); whoever
+//! uses it compares them. A negative IntConst is two tokens, its sign and its digits (02, #107).
 
 mod declaration;
 mod expr;
@@ -11,7 +11,7 @@ mod types;
 
 use crate::joined::Joint;
 use crate::read::Tree;
-use crate::split::split;
+use crate::split::{blanks, split};
 use glsl_lang::ast;
 
 /// A text, token by token.
@@ -38,6 +38,23 @@ impl Tokens {
     /// Whether splitting a text by longest match gives these tokens.
     pub fn are_split_from(&self, text: &str) -> bool {
         split(text).is_some_and(|words| words.into_iter().eq(self.words()))
+    }
+
+    /// These tokens laid over a text: the blanks that stand before each of them, and behind the last; nothing where the text has
+    /// other tokens. `written` says how the text spells a token.
+    pub fn blanks_in<'t>(
+        &self,
+        text: &'t str,
+        written: impl for<'w> Fn(&'w str) -> &'w str,
+    ) -> Option<(Vec<&'t str>, &'t str)> {
+        let mut rest = text;
+        let mut before = |word| {
+            let (blanks, behind) = blanks(rest);
+            rest = behind.strip_prefix(written(word))?;
+            Some(blanks)
+        };
+        let before = self.words().map(&mut before).collect::<Option<_>>()?;
+        blanks(rest).1.is_empty().then_some((before, rest))
     }
 
     /// How tokens are joined to those before them, in their order.
@@ -132,7 +149,7 @@ mod tests {
     use crate::answer::Root;
     use crate::split::without_blanks;
     use crate::tree::{all, int, keyword, many, named, plain, rec, var};
-    use crate::{grow, print, read, settings};
+    use crate::{grow, mended, read, settings};
 
     /// The tokens of an expression whose names are these, with a blank between any two.
     fn spaced(records: &[u8], names: &str) -> String {
@@ -167,6 +184,7 @@ mod tests {
         let call = all(&[&many(12, 2), &sized, &named(13, 0, 0), &int(1), &plain(15, 0), &var(0)]);
         assert_eq!(spaced(&call, "a"), "int [ ] [ 1 ] ( 1 . a , a -- )");
         assert_eq!(spaced(&all(&[&many(12, 0), &keyword(50)]), ""), "atomic_uint ( )");
+        assert_eq!(spaced(&all(&[&many(12, 0), &keyword(118)]), ""), "uimageBuffer ( )");
         assert_eq!(spaced(&all(&[&many(12, 0), &plain(20, 0), &many(23, 0)]), ""), "struct { } ( )");
     }
 
@@ -190,7 +208,8 @@ mod tests {
                 let whole = read::tree(&question).expect("a good tree");
                 let settings = settings::read(&question.settings).expect("good settings").module;
                 let tokens = tree(&whole, settings.collapse_single_item_compound_statements);
-                assert!(without_blanks(&print::tree(&whole, &settings)).eq(tokens.text.bytes()), "{}", tokens.text);
+                let text = mended::tree(&whole, &settings).expect("the tokens are the text's").text;
+                assert!(without_blanks(&text).eq(tokens.text.bytes()), "{}", tokens.text);
             }
         }
     }

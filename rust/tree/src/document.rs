@@ -30,6 +30,9 @@ const PRINTED: &[(u8, u8, &str)] = &[
     (70, 2, "$1"), (80, 0, "$1 .."), (81, 0, "$1 $2"),
 ];
 
+/// The most bytes of a row of fixed words.
+const WIDEST_ROW: usize = 112;
+
 /// The trees of the examples, by their texts.
 const EXAMPLES: [(&str, &str); 2] = [
     (
@@ -82,11 +85,18 @@ fn last_line(name: &str) -> String {
     format!("<!-- end of {name} -->\n")
 }
 
+/// The fixed words in the order of letters, in lines that are about as long as each other.
 fn fixed_words_shown() -> String {
     let mut words = fixed_words();
     words.sort_unstable();
-    let rows = words.chunks(12).map(|row| format!("    {}\n", row.join(" ")));
-    format!("\n{}\n", rows.collect::<String>())
+    let mut rows: Vec<String> = Vec::new();
+    for word in words {
+        match rows.last_mut() {
+            Some(row) if row.len() + word.len() < WIDEST_ROW => *row = format!("{row} {word}"),
+            _ => rows.push(word),
+        }
+    }
+    format!("\n{}\n", rows.iter().map(|row| format!("    {row}\n")).collect::<String>())
 }
 
 /// A table of Markdown.

@@ -3,7 +3,7 @@
 use crate::record::{Record, MOST_NAMES, MOST_RECORDS};
 use crate::table::{form_of, Class, Holds};
 use crate::walk::{walk, Walk, DEEPEST};
-use crate::words::{fixed_words, has_form};
+use crate::words::{fixed_words, has_form, words_of};
 use crate::write::{Node, Tree};
 
 /// The room of the program `print`, in bytes.
@@ -126,7 +126,10 @@ fn at_node(tree: &Tree, walk: &Walk, number: usize, place: usize) -> Vec<String>
         8 => lines.extend(form_of(kind, variant).map(|form| format!("it has {}", form.parts_called()))),
         9 => lines.push(format!("it has count {count}, a {a}, b {b}; it uses {}", used(kind, variant))),
         10 => lines.push(format!("it begins at {a} and has {b} bytes; the names have {}", tree.names.len())),
-        11 => lines.push(form_of_text(node.record).into()),
+        11 => {
+            lines.extend(fixed_word(node.record, &tree.names));
+            lines.push(form_of_text(node.record).into());
+        }
         _ => {}
     }
     lines
@@ -161,6 +164,21 @@ fn above(tree: &Tree, parent: Option<usize>) -> Option<String> {
     Some(format!("below {}, where stand: {}", shown(node), form.parts_called()))
 }
 
+/// What a record's name is if it is a fixed word. A type that is recorded by such a name has to be a Keyword.
+fn fixed_word(record: Record, names: &[u8]) -> Option<String> {
+    form_of(record.kind, record.variant).filter(|form| form.holds != Holds::Float)?;
+    let text = record.text(names)?;
+    let place = |words: Vec<String>| words.iter().position(|word| word.as_bytes() == text);
+    let word = String::from_utf8_lossy(text);
+    match place(words_of(21)) {
+        Some(variant) => Some(format!(
+            "{word} is a type word of GLSL and no name; where that type is meant, the node is Keyword {word} (kind 21, \
+             variant {variant})"
+        )),
+        None => place(fixed_words()).map(|_| format!("{word} is a word of GLSL and no name")),
+    }
+}
+
 /// The form that a record's text must have.
 fn form_of_text(record: Record) -> &'static str {
     match form_of(record.kind, record.variant).map(|form| form.holds) {
@@ -170,7 +188,7 @@ fn form_of_text(record: Record) -> &'static str {
         }
         _ => {
             "a name has 1 to 255 ASCII letters, digits and underscores, no digit first, and is no word that the \
-             printer writes itself (if, vec3, true ..)"
+             printer writes itself (if, vec3, image2D, true ..)"
         }
     }
 }
@@ -201,8 +219,21 @@ mod tests {
 
     #[test]
     fn a_name_of_the_wrong_form() {
-        let said = explained("# a comment\nPostInc\n  Variable \"if\"  # no name\n", 11, 1);
-        assert!(said.contains("\nline 3: Variable \"if\"\na name has"), "{said}");
+        let said = explained("# a comment\nPostInc\n  Variable \"i-f\"  # no name\n", 11, 1);
+        assert!(said.contains("\nline 3: Variable \"i-f\"\na name has"), "{said}");
+    }
+
+    /// A tree that was printed before request #102 is told why it is not any more.
+    #[test]
+    fn a_name_that_is_a_word_of_glsl() {
+        let said = explained("PostInc\n  Variable \"if\"\n", 11, 1);
+        assert!(said.contains("\nline 2: Variable \"if\"\nif is a word of GLSL and no name\na name has"), "{said}");
+        let said = explained("FunCall\n  Type\n    TypeName \"image2D\"\n", 11, 2);
+        let lines = "\nline 3: TypeName \"image2D\"\nimage2D is a type word of GLSL and no name; where that type is \
+                     meant, the node is Keyword image2D (kind 21, variant 92)\na name has";
+        assert!(said.contains(lines), "{said}");
+        let said = explained("FloatConst \"if\"\n", 11, 0);
+        assert!(said.contains("\nline 1: FloatConst \"if\"\nthe text of a float has"), "{said}");
     }
 
     #[test]

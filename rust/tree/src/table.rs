@@ -1,5 +1,6 @@
-//! Document 01's table of kinds ("Tree records"), with the words that a text has for them: each kind, its variants,
-//! what it holds and its children, said once. Reading, writing and explaining all go by it.
+//! Document 01's table of kinds ("Tree records"; the type keywords are document 02's, #102), with the words that a text
+//! has for them: each kind, its variants, what it holds and its children, said once. Reading, writing and explaining all
+//! go by it.
 
 use Class::{Base, Callee, Expression, External, Only, Precision, Statement};
 use Holds::{Float, Name, Nothing, PerhapsName, Signed, Unsigned};
@@ -208,7 +209,7 @@ pub fn all_words() -> String {
     FORMS.iter().map(line).chain([Expression, Statement].iter().map(group)).collect()
 }
 
-/// The form of a record; nothing where document 01 has no such kind or variant.
+/// The form of a record; nothing where the documents have no such kind or variant.
 pub fn form_of(kind: u8, variant: u8) -> Option<&'static Form> {
     FORMS.iter().find(|form| form.covers(kind, variant))
 }
@@ -245,7 +246,7 @@ const BINARY: &[&str] = &[
 /// Kind 10: `show_assignment_op`'s order.
 const ASSIGNMENT: &[&str] = &["Equal", "Mult", "Div", "Mod", "Add", "Sub", "LShift", "RShift", "And", "Xor", "Or"];
 
-/// Kind 21: the type keywords.
+/// Kind 21: the type keywords, document 01's and then the sampler and image words of document 02's request #102.
 #[rustfmt::skip]
 const KEYWORDS: &[&str] = &[
     "void", "bool", "int", "uint", "float", "double",
@@ -256,6 +257,22 @@ const KEYWORDS: &[&str] = &[
     "dmat2", "dmat3", "dmat4",
     "dmat2x2", "dmat2x3", "dmat2x4", "dmat3x2", "dmat3x3", "dmat3x4", "dmat4x2", "dmat4x3", "dmat4x4",
     "sampler2D", "sampler3D", "samplerCube", "sampler2DShadow", "sampler2DArray", "atomic_uint",
+    "sampler1D", "sampler1DShadow", "sampler1DArray", "sampler1DArrayShadow",
+    "isampler1D", "isampler1DArray", "usampler1D", "usampler1DArray",
+    "sampler2DArrayShadow", "isampler2D", "isampler2DArray", "usampler2D", "usampler2DArray",
+    "sampler2DRect", "sampler2DRectShadow", "isampler2DRect", "usampler2DRect",
+    "sampler2DMS", "isampler2DMS", "usampler2DMS", "sampler2DMSArray", "isampler2DMSArray", "usampler2DMSArray",
+    "isampler3D", "usampler3D",
+    "samplerCubeShadow", "isamplerCube", "usamplerCube",
+    "samplerCubeArray", "samplerCubeArrayShadow", "isamplerCubeArray", "usamplerCubeArray",
+    "samplerBuffer", "isamplerBuffer", "usamplerBuffer",
+    "image1D", "iimage1D", "uimage1D", "image1DArray", "iimage1DArray", "uimage1DArray",
+    "image2D", "iimage2D", "uimage2D", "image2DArray", "iimage2DArray", "uimage2DArray",
+    "image2DRect", "iimage2DRect", "uimage2DRect",
+    "image2DMS", "iimage2DMS", "uimage2DMS", "image2DMSArray", "iimage2DMSArray", "uimage2DMSArray",
+    "image3D", "iimage3D", "uimage3D",
+    "imageCube", "iimageCube", "uimageCube", "imageCubeArray", "iimageCubeArray", "uimageCubeArray",
+    "imageBuffer", "iimageBuffer", "uimageBuffer",
 ];
 
 /// Kind 29, variants 0..16: `show_storage_qualifier`'s order.
@@ -372,8 +389,8 @@ mod tests {
     }
 
     #[test]
-    fn document_01_has_198_kinds_with_variants() {
-        assert_eq!(all_pairs().filter(|(kind, variant)| form_of(*kind, *variant).is_some()).count(), 198);
+    fn the_documents_have_266_kinds_with_variants() {
+        assert_eq!(all_pairs().filter(|(kind, variant)| form_of(*kind, *variant).is_some()).count(), 266);
     }
 
     #[test]

@@ -90,6 +90,16 @@ mod tests {
             ("if", false),
             ("vec3", false),
             ("a-b", false),
+            // Words of request #102; the Rust module's misspellings of two; one of Vulkan's; one kept for future use.
+            ("sampler1D", false),
+            ("isampler2DMS", false),
+            ("usampler2DMSArray", false),
+            ("image2D", false),
+            ("uimageBuffer", false),
+            ("isampler2MS", true),
+            ("usamplerDMSArray", true),
+            ("texture2D", true),
+            ("sampler3DRect", true),
             (&long(255), true),
             (&long(256), false),
         ] {

@@ -24,9 +24,10 @@ fn between<'t>(text: &'t str, first: &str, last: &str) -> &'t str {
     rest.split_once(last).unwrap_or_else(|| panic!("no {last} behind {first}")).0
 }
 
-/// The entries of a list of a specification.
+/// The entries of a list of a specification. Lines of comment may stand between them.
 fn listed<'s>(spec: &'s str, name: &str) -> Vec<&'s str> {
-    between(spec, &format!("\n{name} ="), "[]").split('∷').map(str::trim).filter(|entry| !entry.is_empty()).collect()
+    let lines = between(spec, &format!("\n{name} ="), "[]").lines().filter(|line| !line.trim().starts_with("--"));
+    lines.flat_map(|line| line.split('∷')).map(str::trim).filter(|entry| !entry.is_empty()).collect()
 }
 
 /// The entries of a list, each by the text that a function has for it.

@@ -1,5 +1,6 @@
-//! The table of kinds says what the printer's own table says (crates/shapes/src/rows.rt, which is proved to be document
-//! 01's): for every kind and variant what it holds, its count and its children, and for every place what may stand there.
+//! The table of kinds says what the printer's own table says (crates/shapes/src/rows.rt, which is proved to be the
+//! documents'): for every kind and variant what it holds, its count and its children, and for every place what may stand
+//! there.
 
 mod sample;
 
@@ -91,5 +92,5 @@ fn the_table_is_the_printers() {
         }
         compared += 1;
     }
-    assert_eq!(compared, 198);
+    assert_eq!(compared, 266);
 }

@@ -37,7 +37,7 @@ pub fn examples() -> Vec<PathBuf> {
     let paths = folder.map(|entry| entry.expect("it can be read").path());
     let texts = paths.filter(|path| path.extension().is_some_and(|end| end == "txt"));
     let found: Vec<PathBuf> = texts.map(|path| path.with_extension("")).collect();
-    assert!(found.len() >= 4);
+    assert!(found.len() >= 5);
     found
 }
 
