@@ -5,8 +5,8 @@
  * target/native/libglsl.a, which `sh tools/staticlib.sh glsl` writes. examples/c/expression.c is a whole program.
  *
  * Promised by each call, whatever the bytes that it gets, and proved of the library's code (what is trusted for that: docs/PROMISES.md):
- *   - It returns, with the text or with the first refusal in the order of their numbers (of 4 to 11, the first faulty record's).
- *     The same bytes always have the same answer.
+ *   - It returns, with the text or with the first refusal in this order: 1, 2, 3; at each record 4 to 11 and then 15, so that the first
+ *     faulty record decides; 12; 13. The same bytes always have the same answer.
  *   - On a refusal no byte of the room is altered.
  *   - A text stands at the front of the room. The bytes behind it are untouched, so no zero ends it.
  *   - Slices are lent for the call alone: nothing is kept, and only the room is written. There is no state and no heap, so any
@@ -62,10 +62,10 @@ int64_t glsl_print_expr(const uint8_t *settings, size_t settings_length,
  * splits a text under GLSL_TIGHT into the expression's tokens exactly where the answer is 0 (docs/LAYOUT.md).
  * The needed spaces (settings byte 21, as in GLSL_EXPORT) keep all three sorts apart, and where they are on there is no need to ask;
  * spaces around operators (byte 12) by themselves keep the first sort apart.
- * The answer is 1 or 0, or a refusal with a number of 2 to 12. */
+ * The answer is 1 or 0, or a refusal with a number of 2 to 12, or 15. */
 int64_t glsl_joined(const uint8_t *records, size_t records_length, const uint8_t *names, size_t names_length);
 
-/* Why there is no answer. Behind each: the place that goes with it. A record's place is its index, from 0. */
+/* Why there is no answer. Behind each: the place that goes with it. A record's place is its index, from 0. There is no 14. */
 enum glsl_refusal {
     GLSL_NOT_REFUSED = 0,
     GLSL_SETTINGS_OUT_OF_RANGE = 1, /* settings neither 21 nor 22 bytes, or a byte out of range: 0 */
@@ -80,7 +80,8 @@ enum glsl_refusal {
     GLSL_TEXT_BEYOND = 10,          /* a text ends beyond the names: the record */
     GLSL_TEXT_MISFORMED = 11,       /* a text has the wrong form: the record */
     GLSL_RECORDS_LEFT_OVER = 12,    /* records left over: the first of them */
-    GLSL_ROOM_TOO_SMALL = 13        /* the text is longer than the room: the length needed */
+    GLSL_ROOM_TOO_SMALL = 13,       /* the text is longer than the room: the length needed */
+    GLSL_RESERVED_DECLARED = 15     /* a reserved name (gl_..) declared, as a function's, a struct's or a parameter's: the record */
 };
 
 /* An answer is not negative, or minus the sum of the refusal's number times 2^32 and its place. */

@@ -1,7 +1,7 @@
 #!/bin/sh
 # Prints each examples/NAME.txt by the program `print` under OPEN, TIGHT and EXPORT and compares with NAME.open.glsl, NAME.tight.glsl and NAME.export.glsl; with --write
 # it writes these. The sample that the program has in its own folder (crates/print/data) must be what examples/shader.txt makes. ./shader is tried with texts that are
-# printed, under each of these settings, and with one that is refused.
+# printed, under each of these settings, and with two that are refused.
 set -eu
 root=$(cd "$(dirname "$0")/.." && pwd -P)
 folder=$(mktemp -d)
@@ -49,15 +49,22 @@ for example in "$root"/examples/*.txt; do
     count=$((count + 1))
 done
 
+# refused REFUSAL LINE: ./shader says of the text in bad.txt that it is refused so, and which line it is.
+refused() {
+    status=0
+    "$root/shader" "$folder/bad.txt" >"$folder/text" 2>"$folder/reason" || status=$?
+    if [ "$status $(cat "$folder/text")" != "1 refused $1" ] || ! grep -qxF "$2" "$folder/reason"; then
+        echo "examples: ./shader ends with $status: $(cat "$folder/text" "$folder/reason")"
+        exit 1
+    fi
+}
+
 # ./shader prints a text's tree, or says why it does not.
 printf 'Unit\n  Declaration invariant "if"  # no name\n' >"$folder/bad.txt"
-status=0
-"$root/shader" "$folder/bad.txt" >"$folder/text" 2>"$folder/reason" || status=$?
-if [ "$status $(cat "$folder/text")" != "1 refused 11 at 1" ] || ! grep -q '^line 2: Declaration invariant "if"$' "$folder/reason"; then
-    echo "examples: ./shader ends with $status: $(cat "$folder/text" "$folder/reason")"
-    exit 1
-fi
+refused "11 at 1" 'line 2: Declaration invariant "if"'
+printf 'Unit\n  Declaration prototype\n    Prototype "gl_f"  # reserved\n      Full type\n        Type\n          Keyword void\n' >"$folder/bad.txt"
+refused "15 at 2" 'line 3: Prototype "gl_f"'
 "$root/shader" "$root/examples/tiling.txt" | cmp - "$root/examples/tiling.open.glsl"
 "$root/shader" --export "$root/examples/tiling.txt" | cmp - "$root/examples/tiling.export.glsl"
 "$root/shader" --tight | cmp - "$root/examples/shader.tight.glsl"
-echo "examples: $count trees, each printed in OPEN, TIGHT and EXPORT; ./shader, tried with good ones and a bad one"
+echo "examples: $count trees, each printed in OPEN, TIGHT and EXPORT; ./shader, tried with good ones and two bad ones"

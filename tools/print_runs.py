@@ -2,7 +2,7 @@
 """print_runs.py [PROGRAM]: runs the program `print` (crates/print) in a folder of its own for each line of the tables below, and compares all that it writes.
 
 Without PROGRAM it is proved and built first, and ./shader is run too, with its exit status. The texts and refusals are document 01's ("Calls", "Texts to match")
-and those of requests #102 and #106; none is taken from the program."""
+and those of requests #102, #105 and #106; none is taken from the program."""
 import os
 import subprocess
 import sys
@@ -24,13 +24,23 @@ VOID = "31 \n 20 \n 21 \n"
 # A variable of a name, and of a type by its record.
 VARIABLE = '80 0 1 \n 47 1 \n 42 \n 43 1 0 "{}" \n 31 \n 20 \n {}'
 INT_X = VARIABLE.format("x", "21 2")
-FUNCTION = '80 0 1 \n 81 \n 40 0 0 "f" \n' + VOID
+# A function of a name, whose body is not there yet.
+HEAD = '80 0 1 \n 81 \n 40 0 0 "{}" \n' + VOID
+FUNCTION = HEAD.format("f")
 RETURN = FUNCTION + "60 0 1 \n 68 4 \n"
 RETURN_MINUS_A = RETURN + '7 3 \n 1 0 0 "a"'
 # Returned are n - --k, minus over --a, and the field x of 1.
 RETURN_BINARY = RETURN + '8 15 \n 1 0 0 "n" \n 7 1 \n 1 0 0 "k"'
 RETURN_UNARY = RETURN + '7 3 \n 7 1 \n 1 0 0 "a"'
 RETURN_FIELD = RETURN + '13 0 0 "x" \n 2 0 0 1'
+# Declared is a name: of a function in a prototype and in a definition, of a parameter of a function f, of a struct.
+PROTOTYPE = '80 0 1 \n 47 \n 40 0 0 "{}" \n' + VOID
+DEFINITION = HEAD + "60"
+PARAMETER = '80 0 1 \n 47 \n 40 0 1 "f" \n' + VOID + '41 1 \n 20 \n 21 2 \n 27 0 0 "{}"'
+STRUCT = '80 0 1 \n 47 1 \n 42 \n 43 \n 31 \n 20 \n 23 1 0 "{}"'
+# gl_Position is assigned in a function f; it is a field of a block gl_PerVertex.
+ASSIGNED = FUNCTION + '60 0 1 \n 61 1 \n 10 \n 1 0 0 "gl_Position" \n 1 0 0 "p"'
+BLOCK = '80 0 1 \n 47 3 \n 46 0 1 "gl_PerVertex" \n 28 0 1 \n 29 3 \n 26 0 1 \n 20 \n 21 8 \n 27 0 0 "gl_Position"'
 # A function's body holds statements at depth 4.
 BODY, STATEMENT, EMPTY = "60 0 1 \n", 4, "61"
 
@@ -96,6 +106,14 @@ RUNS = [
     ("image2D x", tree(VARIABLE.format("x", "21 92")), "image2D x;"),
     ("isampler2DMS isampler2MS", tree(VARIABLE.format("isampler2MS", "21 69")), "isampler2DMS isampler2MS;"),
     ("the last type word", tree(VARIABLE.format("x", "21 118")), "uimageBuffer x;"),
+    # Names that GLSL keeps for itself (request #105) are printed where they are used, and those near them everywhere.
+    ("gl_Position assigned", tree(ASSIGNED, settings_rec=TIGHT), "void f(){gl_Position=p;}"),
+    ("gl_Position in a block", tree(BLOCK, settings_rec=TIGHT), "out gl_PerVertex{vec4 gl_Position;};"),
+    ("invariant gl_Position", tree('80 0 1 \n 47 4 0 "gl_Position"'), "invariant gl_Position;"),
+    ("a variable gl_x", tree(VARIABLE.format("gl_x", "21 2")), "int gl_x;"),
+    ("a function GL_x", tree(PROTOTYPE.format("GL_x")), "void GL_x();"),
+    ("a parameter gl", tree(PARAMETER.format("gl")), "void f(int gl);"),
+    ("a struct glx", tree(STRUCT.format("glx"), settings_rec=TIGHT), "struct glx{};"),
     # Files that are missing, or empty.
     ("no file", {}, "refused 2 at 0\n"),
     ("no tree.rec", tree(INT_X, tree_rec=None), "refused 2 at 0\n"),
@@ -116,7 +134,7 @@ RUNS = [
     ("32,768 bytes of names", tree(INT_X, names_txt=b"x" * MOST_NAMES), "int x;"),
     ("32,769 bytes of names", tree(INT_X, names_txt=b"x" * (MOST_NAMES + 1)), "refused 3 at 0\n"),
     ("65,536 bytes of names", tree(INT_X, names_txt=b"x" * (2 * MOST_NAMES)), "refused 3 at 0\n"),
-    # Each refusal, in document 01's order.
+    # Each refusal, in the documents' order.
     ("1: a byte out of range", tree(INT_X, settings_rec=changed(TIGHT, 1, 17)), "refused 1 at 0\n"),
     ("1: byte 21 out of range", tree(INT_X, settings_rec=TIGHT + b"\2"), "refused 1 at 0\n"),
     ("1: another byte out of range, of 22", tree(INT_X, settings_rec=changed(EXPORT, 1, 17)), "refused 1 at 0\n"),
@@ -136,6 +154,14 @@ RUNS = [
     # These two were printed before request #102.
     ("11: a type word as a variable's name", tree(VARIABLE.format("image2D", "21 2")), "refused 11 at 3\n"),
     ("11: a type word as a type's name", tree(VARIABLE.format("x", '22 0 0 "image2D"')), "refused 11 at 6\n"),
+    # The first five were printed before request #105.
+    ("15: a function in a prototype", tree(PROTOTYPE.format("gl_f")), "refused 15 at 2\n"),
+    ("15: a function in a definition", tree(DEFINITION.format("gl_f")), "refused 15 at 2\n"),
+    ("15: a parameter", tree(PARAMETER.format("gl_p")), "refused 15 at 9\n"),
+    ("15: a struct", tree(STRUCT.format("gl_S")), "refused 15 at 6\n"),
+    ("15: the least reserved name", tree(STRUCT.format("gl_")), "refused 15 at 6\n"),
+    ("11 before 15", tree(STRUCT.format("gl_-")), "refused 11 at 6\n"),
+    ("15 before 12", tree(STRUCT.format("gl_S") + "\n 80"), "refused 15 at 6\n"),
     ("12: records left over", tree(INT_X + "\n 80 \n 80"), "refused 12 at 7\n"),
     # Limits of depth, names and room.
     ("depth 200", tree(nested(DEEPEST), settings_rec=TIGHT), "void f()" + "{" * COMPOUNDS + ";" + "}" * COMPOUNDS),
@@ -156,6 +182,7 @@ OTHER = ["--settings", "FOLDER/other.rec"]
 SHADER_RUNS = [
     ("a folder", [], tree(RETURN_MINUS_A), 0, "void f() {\n    return -a;\n}\n"),
     ("a folder that is refused", [], tree('80 0 1 \n 1 0 0 "x"'), 1, "refused 5 at 1\n"),
+    ("a folder with a reserved name", [], tree(STRUCT.format("gl_S")), 1, "refused 15 at 6\n"),
     ("an empty folder", [], {}, 1, ""),
     ("a text that begins as a refusal does", [], tree(REFUSED_AT), 0, "refused at;"),
     ("a text of nothing", [], tree("80"), 0, ""),

@@ -7,7 +7,7 @@ import sys
 
 SPECS = "crates/shapes/specs/"
 TARGET = "crates/shapes/src/rows.rt"
-FIELDS = ["empty", "integer", "name", "float"]
+FIELDS = ["empty", "integer", "name", "declared", "float"]
 COUNTS = ["unused", "any", "positive"]
 KINDS, CLASSES, ANY_VARIANT, ROW, PARTS = 256, 32, 255, 8, 4
 
@@ -22,13 +22,16 @@ def class_numbers():
 
 
 def allowed(text):
-    """(low, high, also, least, most) of a line such as `1 to 16 or 20`"""
+    """(low, high, also, least, most, declares) of a line such as `1 to 16 or 20` or `declaring (only 27)`"""
+    declares = text.startswith("declaring ")
+    if declares:
+        text = text.removeprefix("declaring ").strip("()")
     kinds, _, variants = text.partition(" of-variants ")
     kinds, _, also = kinds.partition(" or ")
     low, _, high = kinds.replace("only ", "").partition(" to ")
     low, high = int(low), int(high or low)
     least, most = map(int, variants.strip("()").split(" to ")) if variants else (0, ANY_VARIANT)
-    return [low, high, int(also or low), least, most]
+    return [low, high, int(also or low), least, most, int(declares)]
 
 
 class Rows:

@@ -59,6 +59,11 @@ impl Random {
         None
     }
 
+    /// One of the values, each as often as the others. There has to be one.
+    pub fn one_of<T: Copy>(&mut self, values: &[T]) -> T {
+        values[self.between(0, values.len() - 1)]
+    }
+
     /// Shares of a whole: each at least what is asked for it, with the sum `whole` (or that of `least`, if it is more).
     pub fn share(&mut self, whole: usize, least: &[usize]) -> Vec<usize> {
         let mut shares = least.to_vec();

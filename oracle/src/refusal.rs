@@ -2,7 +2,8 @@
 
 use std::fmt;
 
-/// Why there is no answer. The numbers are document 01's; 13 needs a room, which the oracle has not.
+/// Why there is no answer. The numbers are those of documents 01 and 02. 13 needs a room, which the oracle has not; 14 comes with
+/// directives (02, #101), which it does not read.
 #[derive(Clone, Copy, Debug, PartialEq, Eq, PartialOrd, Ord)]
 pub enum Reason {
     /// Settings neither 21 nor 22 bytes, or a byte out of range.
@@ -29,7 +30,12 @@ pub enum Reason {
     Form = 11,
     /// Records left over.
     LeftOver = 12,
+    /// A reserved name declared: at one record directly behind [`Self::Form`], so before [`Self::LeftOver`].
+    Declared = 15,
 }
+
+/// The numbers of all refusals that a call can give.
+pub const NUMBERS: [u8; 14] = [1, 2, 3, 4, 5, 6, 7, 8, 9, 10, 11, 12, 13, 15];
 
 /// A reason and its place.
 #[derive(Clone, Copy, Debug, PartialEq, Eq)]
@@ -51,7 +57,7 @@ impl Refusal {
         Self { reason, place }
     }
 
-    /// Document 01's number of the reason.
+    /// The number of the reason.
     pub fn number(&self) -> u8 {
         self.reason as u8
     }

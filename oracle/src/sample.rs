@@ -18,17 +18,18 @@ pub mod names;
 pub mod states;
 
 use crate::answer::{answer, Outcome, Question, Root};
-use crate::cases::{cover, damage, limits, tight};
+use crate::cases::{cover, damage, limits, reserved, tight};
 use crate::grow;
 use crate::joined::{Joint, JOINTS};
 use crate::random::Random;
 use crate::read;
+use crate::record::Record;
 use crate::refusal::Refusal;
 use crate::settings;
 use crate::tokens;
 use crate::tree::{all, declared, function, int, keyword, many, named, plain, rec, var};
 use crate::words;
-use std::collections::BTreeMap;
+use std::collections::{BTreeMap, BTreeSet};
 
 /// What a room holds before a call.
 const BLANK: u8 = 0xa5;
@@ -134,15 +135,16 @@ fn first(kind: u8, cases: usize) -> Vec<u8> {
 }
 
 /// The cases of a root and a seed: the smallest trees with each kind and variant in three rooms, trees of all sizes that are
-/// joined in each way, every value of every setting, every refusal in several places, and the limits. In units also the words
-/// that are no names since request #102.
+/// joined in each way, every value of every setting, every refusal in several places, the limits, and reserved names. In units
+/// also the words that are no names since request #102.
 pub fn cases(root: Root, seed: u64) -> Vec<Case> {
     let trees = cover::smallest(root, seed, GROWN);
     let covering = trees.iter().cloned().chain((root == Root::Unit).then(int_x));
     let covering =
         covering.flat_map(|tree| [Room::OneShort, Room::Exact, Room::Larger].map(|room| (tree.clone(), room)));
     let others = joined(root, seed).chain(each_setting(root)).chain(refused(&trees, seed)).chain(at_limits(root));
-    let others = others.chain((root == Root::Unit).then(words_as_names).into_iter().flatten());
+    let others =
+        others.chain((root == Root::Unit).then(words_as_names).into_iter().flatten()).chain(reserved_names(root));
     covering.chain(others.map(|question| (question, Room::Larger))).filter_map(|(q, room)| Case::new(q, room)).collect()
 }
 
@@ -289,6 +291,27 @@ fn words_as_names() -> impl Iterator<Item = Question> {
     })
 }
 
+/// A reserved name (02, #105) wherever one is declared, which is refused; for the first record of each such kind and variant also
+/// one that ends beyond the names, and one among other faults. And where it may stand: once for each kind and variant, and for
+/// every identifier (27), which may be a parameter's.
+fn reserved_names(root: Root) -> Vec<Question> {
+    let mut seen = BTreeSet::new();
+    let mut questions = Vec::new();
+    for spot in reserved::spots(root) {
+        let (question, Record { kind, variant, .. }) = (spot.with(b"gl_x"), spot.record());
+        let is_refused = read::refusal(&question).is_some();
+        let is_first = seen.insert((kind, variant, is_refused));
+        if is_first || is_refused || kind == 27 {
+            questions.push(question);
+        }
+        if is_first && is_refused {
+            questions.push(spot.with_end_beyond_names());
+            questions.extend(spot.among_faults().map(|spot| spot.with(b"gl_")));
+        }
+    }
+    questions
+}
+
 fn expr(records: Vec<u8>, names: &[u8]) -> Question {
     tight(Root::Expr, records, names)
 }
@@ -296,17 +319,17 @@ fn expr(records: Vec<u8>, names: &[u8]) -> Question {
 #[cfg(test)]
 mod tests {
     use super::*;
-    use std::collections::BTreeSet;
+    use crate::refusal;
 
     const ROOTS: [Root; 2] = [Root::Expr, Root::Unit];
 
     #[test]
     fn the_samples_have_everything() {
-        for (root, sizes) in [(Root::Expr, 500..=1_300), (Root::Unit, 500..=1_300)] {
+        for (root, sizes) in [(Root::Expr, 500..=1_400), (Root::Unit, 500..=1_400)] {
             let cases = cases(root, 1);
             assert!(sizes.contains(&cases.len()), "{root:?}: {}", cases.len());
             let numbers: BTreeSet<u8> = cases.iter().map(|case| case.print.0).collect();
-            let all = (0..=13).filter(|&number| root == Root::Expr || number != 3);
+            let all = [0].into_iter().chain(refusal::NUMBERS).filter(|&number| root == Root::Expr || number != 3);
             assert_eq!(numbers, all.collect());
             let good = || cases.iter().filter(|case| case.print.0 == 0).map(|case| &case.question);
             let pairs: BTreeSet<_> = good().flat_map(cover::records).map(|r| (r.kind, r.variant)).collect();
@@ -341,6 +364,27 @@ mod tests {
         let (words, names) = prints.split_at(68);
         assert!(words.iter().all(|print| *print == (11, 1)));
         assert!(names.iter().all(|(number, _)| *number == 0) && names.len() == limits::LIKE_OPAQUE_TYPES.len());
+    }
+
+    /// Kind and variant of the record at a place.
+    fn record_at(question: &Question, place: usize) -> (u8, u8) {
+        cover::records(question).nth(place).map(|record| (record.kind, record.variant)).expect("it is a record's place")
+    }
+
+    #[test]
+    fn reserved_names_are_used_and_refused_by_every_kind_that_has_names() {
+        for root in ROOTS {
+            let cases = cases(root, 1);
+            let refused = cases.iter().filter(|case| case.print.0 == 15);
+            let refused: BTreeSet<_> = refused.map(|case| record_at(&case.question, case.print.1)).collect();
+            assert_eq!(refused, reserved::declaring_pairs(root).collect());
+            let used =
+                cases.iter().filter(|case| case.print.0 == 0).flat_map(|case| reserved::pairs_in(&case.question));
+            assert_eq!(used.collect::<BTreeSet<_>>(), reserved::using_pairs(root).collect());
+        }
+        // The joined question gives the same refusal at the same place.
+        let cases = cases(Root::Expr, 1);
+        assert!(cases.iter().any(|case| case.joined.0 == 15 && case.joined == case.print));
     }
 
     #[test]
@@ -381,7 +425,7 @@ mod tests {
     #[test]
     fn the_samples_are_small() {
         for root in ROOTS {
-            assert!(file(root, 1).len() <= 1 << 19, "{root:?}: {}", file(root, 1).len());
+            assert!(file(root, 1).len() <= 655_360, "{root:?}: {}", file(root, 1).len());
             assert!(cases(root, 1).iter().all(|case| case.room.len() <= 1 << 14));
         }
     }

@@ -1,4 +1,4 @@
-//! The forms of texts (01, below "Tree records"): names, which are no fixed word, and float texts.
+//! The forms of texts (01, below "Tree records"): names, which are no fixed word and may be reserved (02, #105), and float texts.
 
 /// The 119 type keywords, in the order of kind 21's variants: those that document 01 lists, then the sampler and image words
 /// that are left of 4.60, section 3.6, by its lines (02, #102).
@@ -67,12 +67,37 @@ pub fn is_fixed_word(text: &[u8]) -> bool {
     TYPE_KEYWORDS.iter().chain(&OTHER_WORDS).any(|word| word.as_bytes() == text)
 }
 
-/// A name has 1 to 255 ASCII letters, digits and underscores, no digit first, and isn't a fixed word.
-pub fn is_name(text: &[u8]) -> bool {
-    (1..=LONGEST_NAME).contains(&text.len())
+/// What reserved names begin with (4.60, section 3.7).
+pub const RESERVED: &[u8] = b"gl_";
+
+/// What a text is as a name.
+#[derive(Clone, Copy, Debug, PartialEq, Eq)]
+pub enum Judgement {
+    /// A name that a tree may declare and use.
+    Ordinary,
+    /// A name that GLSL keeps for itself: a tree may use it.
+    Reserved,
+    /// No name.
+    NoName,
+}
+
+/// Judges a text. A name has 1 to 255 ASCII letters, digits and underscores, no digit first, and isn't a fixed word (01). Names
+/// that begin with the letters gl and an underscore are reserved (02, #105).
+pub fn judge(text: &[u8]) -> Judgement {
+    let is_name = (1..=LONGEST_NAME).contains(&text.len())
         && text.iter().all(|&byte| byte.is_ascii_alphanumeric() || byte == b'_')
         && !text[0].is_ascii_digit()
-        && !is_fixed_word(text)
+        && !is_fixed_word(text);
+    match is_name {
+        false => Judgement::NoName,
+        true if text.starts_with(RESERVED) => Judgement::Reserved,
+        true => Judgement::Ordinary,
+    }
+}
+
+/// Whether a text is a name, reserved or not.
+pub fn is_name(text: &[u8]) -> bool {
+    judge(text) != Judgement::NoName
 }
 
 /// A float text has 1 to 400 bytes: a whole part, then nothing, or a point and a fraction.
@@ -113,6 +138,24 @@ mod tests {
         }
         for other in ["", "9a", "a-b", "é", "int", "true", "precision", "atomic_uint", &"x".repeat(256)] {
             assert!(!is_name(other.as_bytes()), "{other}");
+        }
+    }
+
+    /// Case counts, and so does what stands before the letters; two underscores are not asked for (02, #105).
+    #[test]
+    fn reserved_names_begin_with_gl_and_an_underscore() {
+        let judged = |text: &str| judge(text.as_bytes());
+        let longest = |front: &str| format!("{front}{}", "x".repeat(255 - front.len()));
+        for reserved in ["gl_", "gl_Position", "gl_x", "gl__", "gl_1", "gl_gl_", "gl_int", &longest("gl_")] {
+            assert_eq!(judged(reserved), Judgement::Reserved, "{reserved}");
+        }
+        for ordinary in
+            ["g", "gl", "glx", "gl1_", "GL_x", "Gl_x", "gL_a", "g_l", "_gl_", "xgl_", "a__b", &longest("gl")]
+        {
+            assert_eq!(judged(ordinary), Judgement::Ordinary, "{ordinary}");
+        }
+        for other in ["", "1gl_", "gl_-", "gl-", "gl_ ", "gl_\0", "gl_é", "int", &(longest("gl_") + "x")] {
+            assert_eq!(judged(other), Judgement::NoName, "{other}");
         }
     }
 

@@ -2,12 +2,13 @@
 
 use oracle::answer::{answer, Outcome, Question, Root};
 use oracle::cases::cover::{pairs, records};
-use oracle::cases::damage;
+use oracle::cases::{damage, reserved};
 use oracle::name::name;
 use oracle::random::Random;
 use oracle::tables::MISSPELT;
+use oracle::words::{judge, Judgement, LONGEST_NAME};
 use oracle::{grow, settings};
-use std::collections::BTreeSet;
+use std::collections::{BTreeMap, BTreeSet};
 
 const CASES: u64 = 3_000;
 
@@ -88,6 +89,30 @@ fn misspelt_keywords_come_up_and_names_like_them() {
     }
 }
 
+/// Reserved names (02, #105) come up wherever they may stand, short ones and the longest. (That no tree declares one is said by all
+/// trees being answered.) Names that are nearly reserved come up too.
+#[test]
+fn reserved_names_come_up_and_names_like_them() {
+    for root in [Root::Expr, Root::Unit] {
+        let mut counts: BTreeMap<(u8, u8), u64> = BTreeMap::new();
+        // Many, since few expressions have layout ids: only a struct that is called holds them.
+        for question in (0..20 * CASES).map(|case| grow::rooted(root, 1, case)) {
+            for pair in reserved::pairs_in(&question) {
+                *counts.entry(pair).or_default() += 1;
+            }
+        }
+        assert!(counts.keys().copied().eq(reserved::using_pairs(root)), "{root:?}: {counts:?}");
+        assert!(counts.values().all(|&count| count >= 5), "{root:?}: {counts:?}");
+    }
+    let named = |q: &Question| -> BTreeSet<Vec<u8>> {
+        (0..records(q).count() as u64).map(|index| name(&q.records, &q.names, index).to_vec()).collect()
+    };
+    let names: BTreeSet<Vec<u8>> = questions().flat_map(|q| named(&q)).collect();
+    let expected = grow::RESERVED_NAMES.iter().chain(&grow::NEARLY_RESERVED);
+    assert!(expected.into_iter().all(|name| names.contains(name.as_bytes())));
+    assert!(names.iter().any(|name| judge(name) == Judgement::Reserved && name.len() == LONGEST_NAME));
+}
+
 #[test]
 fn damaged_trees_are_refused_or_answered() {
     let mut random = Random::new(1, CASES);
@@ -98,5 +123,5 @@ fn damaged_trees_are_refused_or_answered() {
         }
     }
     // 1 and 3 need other settings and long names, 6 a deep tree.
-    assert_eq!(refusals, BTreeSet::from([2, 4, 5, 7, 8, 9, 10, 11, 12]));
+    assert_eq!(refusals, BTreeSet::from([2, 4, 5, 7, 8, 9, 10, 11, 12, 15]));
 }

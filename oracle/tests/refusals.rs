@@ -1,4 +1,4 @@
-//! Refusals of the decoder: document 01's table, line by line, and the order among them.
+//! Refusals of the decoder: the documents' table, line by line, and the order among them.
 
 mod common;
 
@@ -204,6 +204,91 @@ fn opaque_types_are_no_names() {
         let call = all(&[&many(12, 0), &plain(20, 0), &rec(22, 0, 0, 0, length)]);
         expr(&call, text, refused.map(|number| (number, 2)));
     }
+}
+
+/// The record with this text, which is all of the names.
+fn with_text(kind: u8, variant: u8, count: u16, text: &str) -> Vec<u8> {
+    rec(kind, variant, count, 0, u32::try_from(text.len()).expect("short"))
+}
+
+/// A unit of one prototype with a parameter of each variant, `void f(int,int x,const int,const int x);`; the function has the first
+/// name and the parameters' names are the second.
+fn prototype(function: &[u8], parameter: &[u8]) -> Vec<u8> {
+    let qualifier = all(&[&many(28, 1), &plain(29, 0)]);
+    let parameters = all(&[
+        &all(&[&plain(41, 0), &keyword(2)]),
+        &all(&[&plain(41, 1), &keyword(2), parameter]),
+        &all(&[&plain(41, 2), &qualifier, &keyword(2)]),
+        &all(&[&plain(41, 3), &qualifier, &keyword(2), parameter]),
+    ]);
+    all(&[&many(80, 1), &plain(47, 0), function, &plain(31, 0), &keyword(0), &parameters])
+}
+
+/// Functions, structs and parameters have no reserved names (02, #105); names that are nearly reserved are ordinary.
+#[test]
+fn reserved_names_are_not_declared() {
+    for (text, refused) in
+        [("gl_", 15), ("gl_Position", 15), ("gl", 0), ("GL_x", 0), ("g_l", 0), ("gl_-", 11), ("int", 11)]
+    {
+        let refused = |place| (refused > 0).then_some((refused, place));
+        let [function, structure] = [(40, 0), (23, 1)].map(|(kind, variant)| with_text(kind, variant, 0, text));
+        let void = all(&[&plain(31, 0), &keyword(0)]);
+        unit(&all(&[&many(80, 1), &plain(47, 0), &function, &void]), text, refused(2));
+        unit(&all(&[&many(80, 1), &plain(81, 0), &function, &void, &many(60, 0)]), text, refused(2));
+        expr(&all(&[&many(12, 0), &plain(20, 0), &structure]), text, refused(2));
+        let list = all(&[&plain(47, 1), &plain(42, 0), &plain(43, 0), &plain(31, 0)]);
+        unit(&all(&[&many(80, 1), &list, &plain(20, 0), &structure]), text, refused(6));
+        let (f, x) = (with_text(40, 0, 4, text), with_text(27, 0, 0, text));
+        unit(&prototype(&f, &x), text, refused(2));
+        let f = rec(40, 0, 4, u32::try_from(text.len()).expect("short"), 1);
+        unit(&prototype(&f, &x), &format!("{text}f"), refused(12));
+    }
+}
+
+/// Everything else may be reserved: uses, types, layout ids, declarators, blocks, conditions, and the 27 of fields (02, #105).
+#[test]
+fn reserved_names_are_used() {
+    let text = "gl_";
+    let of = |kind, variant| with_text(kind, variant, 0, text);
+    let (ty, value) = (all(&[&plain(20, 0), &of(22, 0)]), all(&[&of(13, 0), &of(1, 0)]));
+    expr(&value, text, None);
+    let field = all(&[&many(26, 1), &ty, &of(27, 0)]);
+    expr(&all(&[&many(12, 1), &plain(20, 0), &many(23, 1), &field, &value]), text, None);
+    let layout = all(&[&many(28, 1), &rec(29, 18, 2, 0, 0), &of(30, 0), &of(30, 1), &value]);
+    unit(&all(&[&many(80, 1), &plain(47, 5), &layout]), text, None);
+    let array = all(&[&many(24, 1), &plain(25, 1), &value]);
+    let list = all(&[&plain(47, 1), &many(42, 2), &of(43, 1), &plain(31, 0), &ty]);
+    unit(&all(&[&many(80, 1), &list, &plain(44, 0), &of(27, 0), &plain(44, 0), &of(27, 1), &array]), text, None);
+    let block = all(&[&plain(47, 3), &with_text(46, 1, 1, text), &many(28, 1), &plain(29, 7), &field, &of(27, 0)]);
+    unit(&all(&[&many(80, 2), &block, &of(47, 4)]), text, None);
+    let condition = all(&[&of(69, 1), &plain(31, 0), &ty, &plain(45, 0), &value]);
+    let f = all(&[&plain(81, 0), &rec(40, 0, 0, 3, 1), &plain(31, 0), &keyword(0)]);
+    unit(&all(&[&many(80, 1), &f, &many(60, 1), &plain(65, 0), &condition, &plain(61, 0)]), "gl_f", None);
+    // A field of a parameter's struct is a field; the parameter behind it is declared.
+    let struct_of = |name: Vec<u8>| all(&[&plain(41, 1), &plain(20, 0), &many(23, 1), &field, &name]);
+    let prototype = |parameter: Vec<u8>| {
+        all(&[&many(80, 1), &plain(47, 0), &rec(40, 0, 1, 3, 1), &plain(31, 0), &keyword(0), &struct_of(parameter)])
+    };
+    unit(&prototype(rec(27, 0, 0, 3, 1)), "gl_f", None);
+    unit(&prototype(of(27, 0)), "gl_f", Some((15, 13)));
+}
+
+/// 15 comes directly behind 11 at a record; so before 4 and 11 of later records, and before 12, but behind an earlier record's 11.
+#[test]
+fn reserved_names_come_behind_wrong_forms() {
+    let structure = |a, b| all(&[&many(12, 0), &plain(20, 0), &rec(23, 1, 0, a, b)]);
+    expr(&structure(0, 3), "gl_", Some((15, 2)));
+    expr(&structure(0, 4), "gl_", Some((10, 2)));
+    expr(&structure(0, 4), "gl_-", Some((11, 2)));
+    expr(&structure(0, 256), &format!("gl_{}", "x".repeat(253)), Some((11, 2)));
+    expr(&structure(0, 255), &format!("gl_{}", "x".repeat(253)), Some((15, 2)));
+    let fault = rec(1, 0, 0, 0, 0);
+    expr(&all(&[&plain(16, 0), &fault, &structure(0, 3)]), "gl_", Some((11, 1)));
+    expr(&all(&[&plain(16, 0), &structure(0, 3), &fault]), "gl_", Some((15, 3)));
+    expr(&all(&[&structure(0, 3), &fault]), "gl_", Some((15, 2)));
+    expr(&all(&[&many(12, 0), &plain(20, 0), &rec(23, 1, 1, 0, 3)]), "gl_", Some((15, 2)));
+    // 9 comes first too: an identifier has no count.
+    unit(&prototype(&rec(40, 0, 4, 3, 1), &rec(27, 0, 1, 0, 3)), "gl_f", Some((9, 12)));
 }
 
 #[test]

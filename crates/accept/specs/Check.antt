@@ -1,16 +1,16 @@
 -- The record check: which refusal, and where (01, "Calls"): sizes first; then the first faulty record in preorder decides, by the first of its faults in
--- 01's order; then what is left over. (1 and 13 are the calls'.) Assumes nothing.
+-- 01's order, with 02's 15 directly behind 11; then what is left over. (1 and 13 are the calls'.) Assumes nothing.
 use mathlib.Core.Bool.{Bool, false, not, _&&_, _||_, cond}
 use mathlib.Core.List.{List, [], _∷_}
 use mathlib.Core.Option.{Option, none, some}
 use Prim.Native.Nat.{ℕ, zero, suc, _+_, _*_, _%_}
 use lib.Dec.{eqb, ltb, leb}
 use lib.ListN.{length, replicate}
-use Rattle.words.specs.Form.{nameForm, floatForm}
+use Rattle.words.specs.Form.{nameForm, floatForm, reserved}
 use Rattle.records.specs.declared.Record.{Record}
 use Rattle.records.specs.Record.{record-size, recordCount, recordAt, textOf}
 use Rattle.shapes.specs.Class.{Class, allowed, takesKind, takesVariant}
-use Rattle.shapes.specs.Shape.{Fields, Count, Shape, lastVariant, shapeOf, classes}
+use Rattle.shapes.specs.Shape.{Fields, Count, Shape, fieldsIn, lastVariant, shapeOf, classes}
 use Rattle.accept.specs.declared.Refusal.{Refusal}
 use Rattle.accept.specs.declared.Refusal.the-variants as Why
 use Rattle.accept.specs.declared.Checked.{Checked}
@@ -43,6 +43,7 @@ abbrev pub fieldSet : Fields → ℕ → ℕ → Bool
 fieldSet Fields.empty a b = not (eqb a 0) || not (eqb b 0)
 fieldSet Fields.integer a b = not (eqb b 0)
 fieldSet Fields.name a b = false
+fieldSet Fields.declared a b = false
 fieldSet Fields.float a b = false
 
 -- 10: T ends beyond the names
@@ -50,6 +51,7 @@ abbrev pub textBeyond : List ℕ → Fields → ℕ → ℕ → Bool
 textBeyond names Fields.empty a b = false
 textBeyond names Fields.integer a b = false
 textBeyond names Fields.name a b = ltb (length names) (a + b)
+textBeyond names Fields.declared a b = ltb (length names) (a + b)
 textBeyond names Fields.float a b = ltb (length names) (a + b)
 
 -- 11: T is not in its form
@@ -57,7 +59,16 @@ abbrev pub textMisformed : Fields → List ℕ → Bool
 textMisformed Fields.empty s = false
 textMisformed Fields.integer s = false
 textMisformed Fields.name s = not (nameForm s)
+textMisformed Fields.declared s = not (nameForm s)
 textMisformed Fields.float s = not (floatForm s)
+
+-- 15: a reserved name is declared (02, #105)
+abbrev pub reservedDeclared : Fields → List ℕ → Bool
+reservedDeclared Fields.empty s = false
+reservedDeclared Fields.integer s = false
+reservedDeclared Fields.name s = false
+reservedDeclared Fields.declared s = reserved s
+reservedDeclared Fields.float s = false
 
 -- a fault, where its test holds
 pub record Fault : Type 0 where
@@ -72,14 +83,21 @@ abbrev pub firstFound : List Fault → Option Refusal
 firstFound [] = none
 firstFound (f ∷ fs) = cond (f .found) (some (f .refusal)) (firstFound fs)
 
--- the faults of what a record holds, where it must have this shape
-abbrev pub contentFaults : List ℕ → Shape → Record → List Fault
-contentFaults names shape r =
+-- the faults of a text
+abbrev pub textFaults : Fields → List ℕ → List Fault
+textFaults f s = fault (textMisformed f s) Why.TextMisformed ∷ fault (reservedDeclared f s) Why.ReservedDeclared ∷ []
+
+-- the first of them, in a place that declares names or does not
+abbrev pub textFault : Bool → Fields → List ℕ → Option Refusal
+textFault declares f s = firstFound (textFaults (fieldsIn declares f) s)
+
+-- the faults of what a record holds, where it must have this shape, in a place that declares names or does not
+abbrev pub contentFaults : List ℕ → Bool → Shape → Record → List Fault
+contentFaults names declares shape r =
     fault (countMissing (shape .count) (r .count)) Why.CountMissing
     ∷ fault (countSet (shape .count) (r .count) || fieldSet (shape .fields) (r .a) (r .b)) Why.UnusedSet
     ∷ fault (textBeyond names (shape .fields) (r .a) (r .b)) Why.TextBeyond
-    ∷ fault (textMisformed (shape .fields) (textOf names r)) Why.TextMisformed
-    ∷ []
+    ∷ textFaults (fieldsIn declares (shape .fields)) (textOf names r)
 
 -- the faults of a record where class c is asked for and so many levels are left, this one included
 abbrev pub faults : List ℕ → ℕ → Class → Record → List Fault
@@ -87,7 +105,7 @@ faults names left c r =
     fault (not (takesKind (allowed c) (r .kind))) Why.KindNotAllowed
     ∷ fault (eqb left 0) Why.TooDeep
     ∷ fault (not (takesVariant (allowed c) (r .variant) && leb (r .variant) (lastVariant (r .kind)))) Why.VariantOutOfRange
-    ∷ contentFaults names (shapeOf (r .kind) (r .variant)) r
+    ∷ contentFaults names (allowed c .declares) (shapeOf (r .kind) (r .variant)) r
 
 unfoldable pub faultOf : List ℕ → ℕ → Class → Record → Option Refusal
 faultOf names left c r = firstFound (faults names left c r)

@@ -1,4 +1,4 @@
--- 01's numbers of the refusals, and its number and place for each answer of the check (01, "Calls"). Assumes nothing.
+-- The numbers of the refusals, 01's and 02's, and the number and place for each answer of the check (01, "Calls"). Assumes nothing.
 use Prim.Native.Nat.{ℕ}
 use Rattle.accept.specs.declared.Refusal.{Refusal}
 use Rattle.accept.specs.declared.Refusal.the-variants as Why
@@ -19,6 +19,8 @@ number Why.TextBeyond = 10
 number Why.TextMisformed = 11
 number Why.RecordsLeftOver = 12
 number Why.RoomTooSmall = 13
+-- 02, #105
+number Why.ReservedDeclared = 15
 
 -- the number of the refusal; 0 is none
 abbrev pub checkedNumber : Checked → ℕ

@@ -55,8 +55,23 @@ keyword v = plain 20 0 ++ plain 21 v
 abbrev declared : ℕ → List ℕ
 declared a = plain 47 1 ++ plain 42 0 ++ named 43 1 a ++ plain 31 0
 
+-- `void NAME(..)` with n parameters, by offset and length of its name
+abbrev prototype : ℕ → ℕ → ℕ → List ℕ
+prototype n a b = rec 40 0 n a b ++ plain 31 0 ++ keyword 0
+
 abbrev function : ℕ → List ℕ
-function a = plain 81 0 ++ named 40 0 a ++ plain 31 0 ++ keyword 0
+function a = plain 81 0 ++ prototype 0 a 1
+
+-- a struct with an int field, by offset and length of both names
+abbrev struct : ℕ → ℕ → ℕ → ℕ → List ℕ
+struct a b c d = plain 20 0 ++ rec 23 1 1 a b ++ many 26 1 ++ keyword 2 ++ rec 27 0 0 c d
+
+-- a unit of a prototype whose name has the first b bytes, up to its one parameter; what an int parameter has behind its qualifier
+abbrev with-parameter : ℕ → ℕ → List ℕ
+with-parameter b v = many 80 1 ++ plain 47 0 ++ prototype 1 0 b ++ plain 41 v
+
+abbrev parameter : ℕ → ℕ → List ℕ
+parameter a b = keyword 2 ++ rec 27 0 0 a b
 
 -- a call without arguments of a type with an array, up to the array
 abbrev array-callee : List ℕ
@@ -83,6 +98,14 @@ accepted =
     ++ expr (many 12 0 ++ keyword 118) "" 3
     ++ expr (rec 1 0 0 0 16) "usamplerDMSArray" 1
     ++ expr (rec 1 0 0 0 9) "texture2D" 1
+    -- 02, #105: reserved names that are used, or not declared as a function, a struct or a parameter: a variable and a field of it, a field of a struct, a variable
+    -- that is declared, and a second one, a block and its name; names that are not reserved
+    ++ expr (rec 13 0 0 11 3 ++ rec 1 0 0 0 11) "gl_Positiongl_" 2
+    ++ expr (many 12 0 ++ struct 0 1 1 4) "Sgl_x" 7
+    ++ unit (many 80 1 ++ plain 47 1 ++ many 42 1 ++ rec 43 1 0 0 4 ++ plain 31 0 ++ keyword 2 ++ plain 44 0 ++ rec 27 0 0 0 4) "gl_v" 9
+    ++ unit (many 80 1 ++ plain 47 3 ++ rec 46 1 0 0 4 ++ many 28 1 ++ plain 29 0 ++ rec 27 0 0 0 4) "gl_B" 6
+    ++ unit (with-parameter 1 1 ++ parameter 1 4) "fGL_x" 10
+    ++ unit (with-parameter 1 1 ++ parameter 1 2) "fgl" 10
 
 abbrev refused : List Case
 refused =
@@ -121,11 +144,17 @@ refused =
     ++ no-expr (rec 1 0 0 0 3) "int" Why.TextMisformed 0
     ++ no-expr (minus ++ rec 1 0 0 0 1 ++ rec 1 0 0 1 7) "aimage2D" Why.TextMisformed 2
     ++ no-expr (rec 6 0 0 0 2) "1." Why.TextMisformed 0
+    -- 15 (02, #105): a function that is defined, one that is declared; a parameter, with a qualifier too; a struct in an expression's callee
+    ++ no-unit (many 80 1 ++ plain 81 0 ++ prototype 0 0 4 ++ many 60 0) "gl_f" Why.ReservedDeclared 2
+    ++ no-unit (many 80 1 ++ plain 47 0 ++ prototype 0 0 3) "gl_" Why.ReservedDeclared 2
+    ++ no-unit (with-parameter 1 1 ++ parameter 1 4) "fgl_x" Why.ReservedDeclared 9
+    ++ no-unit (with-parameter 1 3 ++ many 28 1 ++ plain 29 0 ++ parameter 1 4) "fgl_x" Why.ReservedDeclared 11
+    ++ no-expr (many 12 0 ++ struct 0 4 0 4) "gl_S" Why.ReservedDeclared 2
     -- 12: a second expression; a declaration that the unit does not count
     ++ no-expr (var 0 ++ var 0) "x" Why.RecordsLeftOver 1
     ++ no-unit (many 80 0 ++ declared 0 ++ keyword 2) "x" Why.RecordsLeftOver 1
 
--- two faults, of which the first in 01's order is refused
+-- two faults, of which the first in the documents' order is refused
 abbrev ordered : List Case
 ordered =
     -- at one record: 5 and 7; 7 and 8; 7 and 9; 8 and 9; 9 and 10; 9 and 11; 10 and 11 (a text beyond the names has no form)
@@ -136,7 +165,14 @@ ordered =
     ++ no-expr (rec 1 0 1 0 2) "x" Why.UnusedSet 0
     ++ no-expr (rec 1 0 1 0 1) "1" Why.UnusedSet 0
     ++ no-expr (rec 1 0 0 1 1) "1" Why.TextBeyond 0
+    -- the same with 15: 7 and 15; 9 and 15; 10 and 15; 11 and 15 (what is no name is not reserved)
+    ++ no-unit (many 80 1 ++ plain 47 0 ++ rec 40 1 0 0 4) "gl_f" Why.VariantOutOfRange 2
+    ++ no-unit (with-parameter 1 1 ++ keyword 2 ++ rec 27 0 1 1 4) "fgl_x" Why.UnusedSet 9
+    ++ no-expr (many 12 0 ++ struct 0 5 0 4) "gl_S" Why.TextBeyond 2
+    ++ no-expr (many 12 0 ++ struct 0 4 0 3) "gl_-" Why.TextMisformed 2
     -- at two records: the first of them, whatever the faults
+    ++ no-expr (many 12 0 ++ struct 0 4 4 1) "gl_S1" Why.ReservedDeclared 2
+    ++ no-unit (with-parameter 3 1 ++ parameter 3 4) "intgl_x" Why.TextMisformed 2
     ++ no-expr (minus ++ rec 1 0 0 0 1 ++ many 80 0) "1" Why.TextMisformed 1
     ++ no-expr (minus ++ var 0 ++ many 80 0) "x" Why.KindNotAllowed 2
     ++ no-expr (rec 7 4 0 0 1 ++ many 80 0) "" Why.UnusedSet 0

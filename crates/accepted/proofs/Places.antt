@@ -3,6 +3,7 @@ use mathlib.Core.Path.{_≡_, refl, subst}
 use mathlib.Core.Bool.{Bool, true, false, cond}
 use mathlib.Core.List.{List, [], _∷_}
 use mathlib.Core.Option.{Option, none, some}
+use mathlib.Core.Logic.{_⊎_, inl, inr}
 use Prim.Native.Nat.{ℕ, zero, suc, _≤_, _<_}
 use native.Mathlib.Omega.{arith}
 use lib.Dec.{eqb, ltb}
@@ -46,7 +47,7 @@ module _ (records names : List ℕ) where
   walked-there : (left : ℕ) (c : Class) (r : Record) (i : ℕ) → i < n → Walked n (judged i (faultOf names left c r))
   walked-there left c r i h =
       walked-judged i (faultOf names left c r) h
-      (rw (fault-is names left c r) (found (λ x. Stands n x i) (faults names left c r) (h, (h, (h, (h, (h, (h, (h, tt)))))))))
+      (rw (fault-is names left c r) (found (λ x. Stands n x i) (faults names left c r) (h, (h, (h, (h, (h, (h, (h, (h, tt))))))))))
 
   walked-alone : (left : ℕ) (c : Class) (i : ℕ) → i ≤ n → Walked n (alone records names left c i)
   unfolding alone
@@ -92,18 +93,22 @@ module _ (records names : List ℕ) where
   pub all-taken : (c : Class) (m : ℕ) → check records names c ≡ Next m → m ≡ n
   all-taken c m e = subst (Placed n) e (placed c)
 
--- so no place is beyond the record count, and 01's number is one of 2 to 12
-pub in-range : (n : ℕ) (x : Refusal) (p : ℕ) → Stands n x p → (p ≤ n) × (2 ≤ number x) × (number x ≤ 12)
+-- so no place is beyond the record count, and the number is one of 2 to 12, or 15 (1 and 13 are the calls')
+abbrev pub OfTheCheck : ℕ → Type 0
+OfTheCheck k = (2 ≤ k) × ((k ≤ 12) ⊎ (k ≡ 15))
+
+pub in-range : (n : ℕ) (x : Refusal) (p : ℕ) → Stands n x p → (p ≤ n) × OfTheCheck (number x)
 in-range n Why.SettingsOutOfRange p h = absurd h
-in-range n Why.RecordsOutOfSize p h = (omega arith, omega arith, omega arith)
-in-range n Why.NamesOutOfSize p h = (omega arith, omega arith, omega arith)
-in-range n Why.RecordMissing p h = (omega arith, omega arith, omega arith)
-in-range n Why.KindNotAllowed p h = (omega arith, omega arith, omega arith)
-in-range n Why.TooDeep p h = (omega arith, omega arith, omega arith)
-in-range n Why.VariantOutOfRange p h = (omega arith, omega arith, omega arith)
-in-range n Why.CountMissing p h = (omega arith, omega arith, omega arith)
-in-range n Why.UnusedSet p h = (omega arith, omega arith, omega arith)
-in-range n Why.TextBeyond p h = (omega arith, omega arith, omega arith)
-in-range n Why.TextMisformed p h = (omega arith, omega arith, omega arith)
-in-range n Why.RecordsLeftOver p h = (omega arith, omega arith, omega arith)
+in-range n Why.RecordsOutOfSize p h = (omega arith, (omega arith, inl (omega arith)))
+in-range n Why.NamesOutOfSize p h = (omega arith, (omega arith, inl (omega arith)))
+in-range n Why.RecordMissing p h = (omega arith, (omega arith, inl (omega arith)))
+in-range n Why.KindNotAllowed p h = (omega arith, (omega arith, inl (omega arith)))
+in-range n Why.TooDeep p h = (omega arith, (omega arith, inl (omega arith)))
+in-range n Why.VariantOutOfRange p h = (omega arith, (omega arith, inl (omega arith)))
+in-range n Why.CountMissing p h = (omega arith, (omega arith, inl (omega arith)))
+in-range n Why.UnusedSet p h = (omega arith, (omega arith, inl (omega arith)))
+in-range n Why.TextBeyond p h = (omega arith, (omega arith, inl (omega arith)))
+in-range n Why.TextMisformed p h = (omega arith, (omega arith, inl (omega arith)))
+in-range n Why.RecordsLeftOver p h = (omega arith, (omega arith, inl (omega arith)))
 in-range n Why.RoomTooSmall p h = absurd h
+in-range n Why.ReservedDeclared p h = (omega arith, (omega arith, inr refl))

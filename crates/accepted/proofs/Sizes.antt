@@ -44,7 +44,7 @@ module _ (records names : List ℕ) where
     unfolding check
     names-refused e h = rw (e, lt-ltb most-name-bytes (length names) h) refl
 
-    -- 4 to 12
+    -- 4 to 12, and 15
     pub sizes-pass : recordsOutOfSize records ≡ false → length names ≤ most-name-bytes
         → check records names c ≡ bind (node records names deepest c 0) (nothingBehind records names)
     unfolding check

@@ -39,6 +39,8 @@ numbered n =
     ∷ some Why.TextMisformed
     ∷ some Why.RecordsLeftOver
     ∷ some Why.RoomTooSmall
+    ∷ none
+    ∷ some Why.ReservedDeclared
     ∷ []) n none
 
 its-number : (x : Refusal) → numbered (number x) ≡ some x
@@ -55,6 +57,7 @@ its-number Why.TextBeyond = refl
 its-number Why.TextMisformed = refl
 its-number Why.RecordsLeftOver = refl
 its-number Why.RoomTooSmall = refl
+its-number Why.ReservedDeclared = refl
 
 -- numbers tell refusals apart, and 0 is the number of none
 pub number-tells : (x y : Refusal) → number x ≡ number y → x ≡ y

@@ -5,6 +5,7 @@ use mathlib.Core.Option.{Option, none, some}
 use Prim.Native.Nat.{ℕ}
 use native.Mathlib.Omega.{arith}
 use lib.Dec.{eqb}
+use Rattle.words.proofs.Sorts.{ordinary-name}
 use Rattle.records.specs.declared.Record.{Record}
 use Rattle.records.specs.Record.{textOf, bit0, bit1, bit2}
 use Rattle.text.specs.Tree.{ArrayedIdentifier, FunctionParameterDeclaration, FunctionPrototype, Initializer, Initializers, SingleDeclaration, SingleDeclarationNoType, InitDeclaratorList, Block, Declaration}
@@ -12,6 +13,7 @@ use Rattle.text.specs.Text.{show-function-parameter-declaration, show-parameter
 use Rattle.text.specs.Reading.{prototypeOf, parameterOf, declaratorsOf, singleOf, declaratorOf, initializerOf, blockOf, declarationOf}
 use Rattle.formed.specs.Formed.{Each, Formed-parameter, Formed-prototype, Formed-initializer, Formed-some-initializers, Formed-initializers, Formed-single, Formed-declarator, Formed-declarators, Formed-block, Formed-declaration}
 use Rattle.formed.proofs.Precision.{precision-formed}
+use Rattle.formed.proofs.Declared.{parameter-formed}
 use Rattle.bounded.proofs.Weight.{weighs}
 use Rattle.bounded.proofs.Texts.{name-short}
 use Rattle.bounded.proofs.Fits.{between, own-line, sums}
@@ -60,7 +62,7 @@ module _ (collapse : Bool) (ns : List ℕ) (r : Record) where
   unfolding prototypeOf parameters Formed-prototype show-function-prototype weighs reading Holds
   prototypes-fit =
       kind r 40 (row (give (FunctionPrototype.prototype (textOf ns r)) and full-type and parameters (r .count))
-      (λ x a y b h. simp sums (omega (arith, a .weight (h .1), b .weight (h .2), name-short))))
+      (λ x a y b h. simp sums (omega (arith, a .weight (h .1), b .weight (h .2), name-short (textOf ns r) (ordinary-name (textOf ns r) (h .0))))))
       (parts (give FunctionPrototype.no-prototype) (λ h. absurd h))
 
   pub parameters-fit : Light collapse Formed-parameter show-function-parameter-declaration between (parameterOf ns r)
@@ -68,7 +70,7 @@ module _ (collapse : Bool) (ns : List ℕ) (r : Record) where
   parameters-fit =
       kind r 41 (variant (bit0 (r .variant))
       (row (give FunctionParameterDeclaration.Named and qualification-if (bit1 (r .variant)) and type and identifier)
-      (λ x a y b z c h. simp sums (omega (arith, a .weight, b .weight, c .weight))))
+      (λ x a y b z c h. simp sums (omega (arith, a .weight, b .weight, c .weight (parameter-formed (z .tree) (h .2))))))
       (row (give FunctionParameterDeclaration.Unnamed and qualification-if (bit1 (r .variant)) and type)
       (λ x a y b h. simp sums (omega (arith, a .weight, b .weight)))))
       (parts (give FunctionParameterDeclaration.no-parameter) (λ h. absurd h))

@@ -11,6 +11,7 @@ use Rattle.text.specs.Tree.{TypeSpecifier, TypeSpecifiers, TypeSpecifierNonArra
 use Rattle.text.specs.Text.{without-types, show-type-specifier, show-type-specifiers, show-type-specifier-non-array, show-array-spec, show-dimension, show-struct-field, show-struct-fields, show-arrayed-identifier, show-arrayed-identifiers, show-type-qualifier, show-type-qualifier-spec, show-layout-ids, show-layout-qualifier-spec, show-fully-specified-type}
 use Rattle.text.specs.Reading.{storageOf, precisionOf, interpolationOf, typeOf, baseOf, arrayOf, dimensionOf, fieldOf, identifierOf, qualifierOf, specOf, layoutIdOf, fullTypeOf}
 use Rattle.formed.specs.Formed.{Formed-type, Formed-types, Formed-base, Formed-dimensions, Formed-dimension, Formed-field, Formed-fields, Formed-identifier, Formed-some-identifiers, Formed-identifiers, Formed-qualifier, Formed-specs, Formed-spec, Formed-layout, Formed-ids, Formed-id, Formed-full-type}
+use Rattle.formed.proofs.Declared.{if-declared}
 use Rattle.bounded.proofs.Weight.{weighs}
 use Rattle.bounded.proofs.Texts.{name-short}
 use Rattle.bounded.proofs.Fits.{between, own-line, weighs-unless, sums}
@@ -85,7 +86,7 @@ module _ (collapse : Bool) (ns : List ℕ) (r : Record) where
       kind r 21 (row (give (TypeSpecifierNonArray.Keyword (r .variant))) (λ h. omega arith))
       (kind r 22 (row (give (TypeSpecifierNonArray.TypeName (textOf ns r))) (λ h. omega (arith, name-short)))
       (kind r 23 (row (give (TypeSpecifierNonArray.Struct (cond (eqb (r .variant) 1) (some (textOf ns r)) none)) and fields (r .count))
-      (λ x a h. simp sums (omega (arith, a .weight (h .1), weighs-name (cond (eqb (r .variant) 1) (some (textOf ns r)) none) (h .0)))))
+      (λ x a h. simp sums (omega (arith, a .weight (h .1), weighs-name (cond (eqb (r .variant) 1) (some (textOf ns r)) none) (if-declared (cond (eqb (r .variant) 1) (some (textOf ns r)) none) (h .0))))))
       (parts (give TypeSpecifierNonArray.no-base) (λ h. absurd h))))
 
   pub arrays-fit : Light collapse Formed-dimensions show-array-spec 0 (arrayOf ns r)

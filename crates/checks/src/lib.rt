@@ -9,9 +9,9 @@ ghost use Rattle.checks.specs.Answer.{refusalAnswer, answer};
 use accept::Checked;
 use accept::Refusal;
 
-// 01's number of a refusal.
+// The number of a refusal, 01's or 02's.
 pub fn number_of(x: Refusal) -> u64
-    ensures { λ r. ⌜ (r ≡ number x) × (r ≤ 13) ⌝ }
+    ensures { λ r. ⌜ (r ≡ number x) × (r ≤ 15) ⌝ }
 {
     match x {
         Refusal::SettingsOutOfRange => 1,
@@ -27,6 +27,7 @@ pub fn number_of(x: Refusal) -> u64
         Refusal::TextMisformed => 11,
         Refusal::RecordsLeftOver => 12,
         Refusal::RoomTooSmall => 13,
+        Refusal::ReservedDeclared => 15,
     }
 }
 

@@ -37,6 +37,7 @@ use Rattle.text.specs.Text.{bool-word, a-token, a-word, a-space, a-symbol, bare
 use Rattle.text.specs.Visible.{tokensOf}
 use Rattle.formed.specs.Formed.{Name, IfThere, Formed-expr, Formed-exprs, Formed-callee, Formed-type, Formed-types, Formed-base, Formed-fields, Formed-field, Formed-some-identifiers, Formed-identifiers, Formed-identifier, Formed-qualification, Formed-qualifier, Formed-specs, Formed-spec, Formed-layout, Formed-ids, Formed-id, Formed-dimensions, Formed-dimension}
 use Rattle.formed.proofs.Signs.{Starts, starts-bare, expr-starts}
+use Rattle.formed.proofs.Declared.{if-declared}
 use Rattle.grammar.proofs.Ladder.{ladder}
 use Rattle.grammar.proofs.Strengths.{same-strength}
 use Rattle.lexis.specs.Division.{Divides}
@@ -220,7 +221,7 @@ module _ (wide : Bool) (passes : List ℕ → Bool) {L : List ℕ → Token → 
     base-part (Keyword v) f h = wider (λ u q. rw q tt) (a-part law (Token.type v) (ok .types v f))
     base-part (TypeName n) f h = name-part n f h
     base-part (Struct n fs) f h =
-        word-part Word.struct onto a-gap and optional-name n f.0 h.0 onto block-opens law (ok .symbols) and fields-part fs f.1 h.1 and block-closes law (ok .symbols)
+        word-part Word.struct onto a-gap and optional-name n (if-declared n f.0) h.0 onto block-opens law (ok .symbols) and fields-part fs f.1 h.1 and block-closes law (ok .symbols)
 
     types-part : (ts : TypeSpecifiers) → Formed-types ts → KeptTypes wide passes s ts → Divided false false (show-type-specifiers ts true)
     types-part TypeSpecifiers.no-types f h = nothing

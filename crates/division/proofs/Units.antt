@@ -5,6 +5,7 @@ use mathlib.Core.Bool.{Bool, true, false, _&&_}
 use mathlib.Core.List.{List, [], _∷_, _++_, append-assoc, append-nil}
 use mathlib.Core.Option.{Option, none, some}
 use Prim.Native.Nat.{ℕ}
+use Rattle.words.proofs.Sorts.{ordinary-name}
 use Rattle.words.specs.Letter.{letter, digit, nameByte}
 use Rattle.words.specs.Word.{Word}
 use Rattle.words.specs.Symbol.{symbolText}
@@ -20,6 +21,7 @@ use Rattle.text.specs.Text.{optional, a-symbol, a-word, show-identifier, show-e
 use Rattle.text.specs.Visible.{tokensOf}
 use Rattle.formed.specs.Formed.{Name, IfThere, Each, Formed-expr, Formed-type, Formed-identifier, Formed-qualification, Formed-full-type, Formed-parameter, Formed-prototype, Formed-initializer, Formed-some-initializers, Formed-initializers, Formed-single, Formed-declarator, Formed-declarators, Formed-block, Formed-declaration, Formed-condition, Formed-for-init, Formed-jump, Formed-statement, Formed-statements, Formed-external, Formed-unit}
 use Rattle.formed.proofs.Precision.{precision-formed}
+use Rattle.formed.proofs.Declared.{parameter-formed}
 use Rattle.lexis.specs.Division.{Divides}
 use Rattle.lexis.specs.Division.Divides.{at-end}
 use Rattle.lexis.proofs.Laws.{symbol-lengthens, lengthens, Spelling}
@@ -93,7 +95,7 @@ module _ (wide : Bool) (passes : List ℕ → Bool) {L : List ℕ → Token → 
   unfolding Formed-parameter KeptParameter show-function-parameter-declaration
   parameter-part FunctionParameterDeclaration.no-parameter f h = absurd f
   parameter-part (FunctionParameterDeclaration.Unnamed q t) f h = qualified-type q t f.0 f.1 h.0 h.1
-  parameter-part (FunctionParameterDeclaration.Named q t i) f h = qualified-type q t f.0 f.1 h.0 h.1 onto a-gap and identifier-part wide passes law ok s i f.2 h.2
+  parameter-part (FunctionParameterDeclaration.Named q t i) f h = qualified-type q t f.0 f.1 h.0 h.1 onto a-gap and identifier-part wide passes law ok s i (parameter-formed i f.2) h.2
 
   -- behind the parameters before them (so too in the lists below)
   more-parameters : (ps : List FunctionParameterDeclaration) → Each Formed-parameter ps → Each (KeptParameter wide passes s) ps → {cs : List Command} → Narrow cs → Narrow (cs ++ show-parameters ps false)
@@ -109,7 +111,7 @@ module _ (wide : Bool) (passes : List ℕ → Bool) {L : List ℕ → Token → 
   prototype-part : (p : FunctionPrototype) → Formed-prototype p → KeptPrototype wide passes s p → Over (show-function-prototype p)
   unfolding Formed-prototype KeptPrototype show-function-prototype
   prototype-part FunctionPrototype.no-prototype f h = absurd f
-  prototype-part (FunctionPrototype.prototype i t ps) f h = called law (ok .symbols) (full-part t f.1 h.1 onto a-gap and a-name i f.0 h.0) (parameters-part ps f.2 h.2)
+  prototype-part (FunctionPrototype.prototype i t ps) f h = called law (ok .symbols) (full-part t f.1 h.1 onto a-gap and a-name i (ordinary-name i f.0) h.0) (parameters-part ps f.2 h.2)
 
   -- an initializer stands clear behind its `=`: an expression begins with no `=`, and a list with a brace
   initializer-clear : (i : Initializer) → Formed-initializer i → (x : FormattingState) (rest : List ℕ) → Clear wide (Token.symbol equal) (text s (show-initializer i) x ++ rest)

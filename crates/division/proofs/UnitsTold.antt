@@ -13,6 +13,7 @@ use Rattle.text.specs.Tree.{Expr, FullySpecifiedType, FunctionParameterDeclarat
 use Rattle.text.specs.Text.{optional, a-word, a-space, separator, show-identifier, show-expr, show-arrayed-identifier, show-fully-specified-type, show-function-parameter-declaration, show-parameters, show-function-prototype, show-initializer, show-initializers, show-declared, show-initialized, show-single-declaration, show-single-declaration-no-type, show-tail, show-init-declarator-list, show-block, show-declaration, show-condition, show-for-init-statement, show-jump-statement, single-item, braced-or-collapsed, show-statement, show-statements, show-function-definition, show-external-declaration, show-translation-unit}
 use Rattle.formed.specs.Formed.{IfThere, Each, Formed-expr, Formed-identifier, Formed-full-type, Formed-parameter, Formed-prototype, Formed-initializer, Formed-some-initializers, Formed-initializers, Formed-single, Formed-declarator, Formed-declarators, Formed-block, Formed-declaration, Formed-condition, Formed-for-init, Formed-jump, Formed-statement, Formed-statements, Formed-external, Formed-unit}
 use Rattle.formed.proofs.Precision.{precision-formed}
+use Rattle.formed.proofs.Declared.{parameter-formed}
 use Rattle.lexis.specs.Glsl.{any}
 use Rattle.division.proofs.Kept.{any-name, Kept, KeptIdentifier, KeptFull, KeptParameter, KeptPrototype, KeptInitializer, KeptInitializers, KeptSingle, KeptDeclarator, KeptDeclarators, KeptBlock, KeptDeclaration, KeptCondition, KeptForInit, KeptJump, KeptStatement, KeptStatements, KeptExternal, KeptUnit}
 use Rattle.division.proofs.Cut.{Tells, always, so-told, first-told, last-told, _also_, past}
@@ -39,7 +40,7 @@ module _ (s : Settings) where
   unfolding Formed-parameter KeptParameter show-function-parameter-declaration
   tells-parameter FunctionParameterDeclaration.no-parameter f = always tt
   tells-parameter (FunctionParameterDeclaration.Unnamed q t) f = tells-qualification s q (f .0) also tells-type s t (f .1)
-  tells-parameter (FunctionParameterDeclaration.Named q t i) f = so-told (λ h. (h .0 .0, h .0 .1, h .1)) (first-told (tells-qualification s q (f .0) also tells-type s t (f .1)) a-space also tells-identifier s i (f .2))
+  tells-parameter (FunctionParameterDeclaration.Named q t i) f = so-told (λ h. (h .0 .0, h .0 .1, h .1)) (first-told (tells-qualification s q (f .0) also tells-type s t (f .1)) a-space also tells-identifier s i (parameter-formed i (f .2)))
 
   tells-parameters : (ps : List FunctionParameterDeclaration) → Each Formed-parameter ps → (first : Bool) → Tells s (show-parameters ps first) (Each (KeptParameter false any s) ps)
   unfolding Each show-parameters

@@ -5,7 +5,7 @@ use Prim.Native.Nat.{ℕ, _+_}
 use Rattle.shapes.specs.Class.{Class}
 use Rattle.text.specs.Tree.{Expr, FunIdentifier, TypeSpecifier, TypeSpecifierNonArray, ArraySpecifier, ArraySpecifierDimension, StructFieldSpecifier, ArrayedIdentifier, TypeQualifier, TypeQualifierSpec, LayoutQualifierSpec, FullySpecifiedType, FunctionParameterDeclaration, FunctionPrototype, Initializer, SingleDeclaration, SingleDeclarationNoType, InitDeclaratorList, Block, Declaration, Condition, ForInitStatement, Statement, Statements, ExternalDeclaration, TranslationUnit}
 use Rattle.text.specs.Reading.{Read, Reader, made, from, expr, callee, type, base, array, dimension, field, identifier, qualifier, spec, layout-id, full-type, prototype, parameter, declarators, single, declarator, initializer, block, declaration, compound, statement, condition, for-init, external, unit}
-use Rattle.formed.specs.Formed.{Formed-expr, Formed-callee, Formed-type, Formed-base, Formed-array, Formed-dimension, Formed-field, Formed-identifier, Formed-qualifier, Formed-spec, Formed-precision, Formed-id, Formed-full-type, Formed-prototype, Formed-parameter, Formed-declarators, Formed-single, Formed-declarator, Formed-initializer, Formed-block, Formed-declaration, Formed-statements, Formed-statement, Formed-condition, Formed-for-init, Formed-external, Formed-unit}
+use Rattle.formed.specs.Formed.{Formed-expr, Formed-callee, Formed-type, Formed-base, Formed-array, Formed-dimension, Formed-field, Formed-identifier, Formed-parameter-identifier, Formed-qualifier, Formed-spec, Formed-precision, Formed-id, Formed-full-type, Formed-prototype, Formed-parameter, Formed-declarators, Formed-single, Formed-declarator, Formed-initializer, Formed-block, Formed-declaration, Formed-statements, Formed-statement, Formed-condition, Formed-for-init, Formed-external, Formed-unit}
 
 -- the sort of tree that a class asks for
 abbrev pub Sort : Class → Type 0
@@ -17,6 +17,7 @@ Sort Class.array = ArraySpecifier
 Sort Class.dimension = ArraySpecifierDimension
 Sort Class.field = StructFieldSpecifier
 Sort Class.identifier = ArrayedIdentifier
+Sort Class.parameter-identifier = ArrayedIdentifier
 Sort Class.qualifier = TypeQualifier
 Sort Class.spec = TypeQualifierSpec
 Sort Class.precision = TypeQualifierSpec
@@ -47,6 +48,7 @@ reader Class.array = array
 reader Class.dimension = dimension
 reader Class.field = field
 reader Class.identifier = identifier
+reader Class.parameter-identifier = identifier
 reader Class.qualifier = qualifier
 reader Class.spec = spec
 reader Class.precision = spec
@@ -77,6 +79,7 @@ Formed Class.array = Formed-array
 Formed Class.dimension = Formed-dimension
 Formed Class.field = Formed-field
 Formed Class.identifier = Formed-identifier
+Formed Class.parameter-identifier = Formed-parameter-identifier
 Formed Class.qualifier = Formed-qualifier
 Formed Class.spec = Formed-spec
 Formed Class.precision = Formed-precision

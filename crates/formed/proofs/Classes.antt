@@ -14,7 +14,7 @@ use Rattle.formed.proofs.Span.{Taken, taken}
 use Rattle.formed.proofs.Kind.{Kind}
 use Rattle.formed.proofs.Opened.{opened}
 use Rattle.formed.proofs.Exprs.{exprs}
-use Rattle.formed.proofs.Types.{type-kind, base-kinds, array-kind, dimension-kind, field-kind, identifier-kind, qualifier-kind, spec-kind, precision-kind, layout-id-kind, full-type-kind}
+use Rattle.formed.proofs.Types.{type-kind, base-kinds, array-kind, dimension-kind, field-kind, identifier-kind, parameter-identifier-kind, qualifier-kind, spec-kind, precision-kind, layout-id-kind, full-type-kind}
 use Rattle.formed.proofs.Declarations.{prototype-kind, parameter-kind, declarators-kind, single-kind, declarator-kind, initializer-kind, block-kind, declaration-kind}
 use Rattle.formed.proofs.Statements.{compound-kind, declaration-statement, statement-kinds, condition-kind, for-init-kind, declaration-external, function-kind, unit-kind}
 
@@ -50,6 +50,7 @@ module _ (rs ns : List ℕ) where
   table Class.dimension = only (dimension-kind rs ns)
   table Class.field = only (field-kind rs ns)
   table Class.identifier = only (identifier-kind rs ns)
+  table Class.parameter-identifier = only (parameter-identifier-kind rs ns)
   table Class.qualifier = only (qualifier-kind rs ns)
   table Class.spec = only (spec-kind rs ns)
   table Class.precision = only (precision-kind rs ns)

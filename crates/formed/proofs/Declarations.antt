@@ -4,7 +4,7 @@ use mathlib.Core.List.{List, [], _∷_}
 use mathlib.Core.Option.{Option, none, some}
 use Prim.Native.Nat.{ℕ}
 use Rattle.records.specs.Record.{part}
-use Rattle.shapes.specs.Class.Class.{expr, type, identifier, qualifier, precision, full-type, prototype, parameter, declarators, single, declarator, initializer, block, declaration}
+use Rattle.shapes.specs.Class.Class.{expr, type, identifier, parameter-identifier, qualifier, precision, full-type, prototype, parameter, declarators, single, declarator, initializer, block, declaration}
 use Rattle.text.specs.Tree.{Identifier, FunctionParameterDeclaration, FunctionPrototype, Initializer, Initializers, SingleDeclaration, SingleDeclarationNoType, InitDeclaratorList, Block, Declaration}
 use Rattle.formed.specs.Formed.{Name, IfThere, Each, Formed-parameter, Formed-declarator, Formed-initializers, Formed-single, Formed-block}
 use Rattle.formed.proofs.Plan.{Items, items, Row, _so_, reads}
@@ -36,7 +36,7 @@ unnamed-row b = give FunctionParameterDeclaration.Unnamed and qualification-if b
 named-row : Bool → Row Formed-parameter
 unfolding opened
 named-row b =
-    give FunctionParameterDeclaration.Named and qualification-if b and one type and one identifier
+    give FunctionParameterDeclaration.Named and qualification-if b and one type and one parameter-identifier
     so qualification-if-holds b (λ x p y q z r. (p, q, r))
 
 single-row : (s : Option Identifier) → IfThere Name s → Bool → Bool → Row Formed-single

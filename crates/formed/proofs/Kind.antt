@@ -20,7 +20,7 @@ rec k v n a b = record { kind = k; variant = v; count = n; a = a; b = b }
 module _ (rs ns : List ℕ) where
   -- Record r fits class c: with its fields filled, and before children that are what their classes ask for, it is what class c asks for.
   abbrev pub Fits : Class → Record → Type 0
-  Fits c r = Filled ns r → (i m : ℕ) → Parts rs ns (childrenOf r) (i + 1) m → Reads (Formed c) (reader c (onto ns r (from rs ns (i + 1)))) i m
+  Fits c r = Filled ns (allowed c .declares) r → (i m : ℕ) → Parts rs ns (childrenOf r) (i + 1) m → Reads (Formed c) (reader c (onto ns r (from rs ns (i + 1)))) i m
 
   -- the records of kind k and variant v do; those of kind k do, in the variants that the class takes
   abbrev pub Variant : Class → ℕ → ℕ → Type 0

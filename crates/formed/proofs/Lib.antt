@@ -14,3 +14,4 @@ pub mod Formed
 pub mod Signs
 pub mod Doubled
 pub mod Precision
+pub mod Declared

@@ -9,10 +9,10 @@ use Rattle.records.proofs.Laws.{split}
 use Rattle.records.specs.Record.{part}
 use Rattle.words.specs.Keyword.{typeKeywords}
 use Rattle.shapes.specs.Shape.{rows, lastVariant}
-use Rattle.shapes.specs.Class.Class.{expr, type, base, array, dimension, field, identifier, qualifier, spec, precision, layout-id, full-type}
+use Rattle.shapes.specs.Class.Class.{expr, type, base, array, dimension, field, identifier, parameter-identifier, qualifier, spec, precision, layout-id, full-type}
 use Rattle.text.specs.Tree.{Identifier, TypeSpecifier, TypeSpecifiers, TypeSpecifierNonArray, ArraySpecifier, ArraySpecifierDimension, StructFieldSpecifier, StructFieldSpecifiers, ArrayedIdentifier, ArrayedIdentifiers, TypeQualifier, TypeQualifierSpec, LayoutQualifier, LayoutQualifierSpec, FullySpecifiedType}
 use Rattle.text.specs.Reading.{storageOf}
-use Rattle.formed.specs.Formed.{KeywordNumber, Name, IfThere, Formed-type, Formed-types, Formed-base, Formed-dimensions, Formed-field, Formed-fields, Formed-identifier, Formed-identifiers, Formed-specs, Formed-ids, Formed-full-type}
+use Rattle.formed.specs.Formed.{KeywordNumber, Declared, IfThere, Formed-type, Formed-types, Formed-base, Formed-dimensions, Formed-field, Formed-fields, Formed-identifiers, Formed-specs, Formed-ids, Formed-full-type}
 use Rattle.formed.proofs.Plan.{Items, items, Row, _so_, reads}
 use Rattle.formed.proofs.Plan.Plan.{give, one, several, some as some-of, _and_}
 use Rattle.formed.proofs.Optional.{array-if, array-if-holds, qualification-if, qualification-if-holds}
@@ -51,7 +51,7 @@ type-row : Bool → Row Formed-type
 unfolding opened
 type-row b = give TypeSpecifier.type and one base and array-if b so λ x p. array-if-holds b (λ y q. (p, q))
 
-struct-row : (n : ℕ) (s : Option Identifier) → IfThere Name s → Row Formed-base
+struct-row : (n : ℕ) (s : Option Identifier) → IfThere Declared s → Row Formed-base
 unfolding opened fields
 struct-row n s h = give (TypeSpecifierNonArray.Struct s) and several n fields so λ x p. (h, p)
 
@@ -61,9 +61,10 @@ field-row n h b =
     give StructFieldSpecifier.field and qualification-if b and one type and some-of n h identifiers
     so qualification-if-holds b (λ x p y q z r u s. (p, q, (r, s)))
 
-identifier-row : (s : Identifier) → Name s → Bool → Row Formed-identifier
+identifier-row : {P : ArrayedIdentifier → Type 0} (s : Identifier)
+    → ((ds : ArraySpecifier) → Formed-dimensions ds → P (ArrayedIdentifier.arrayed s ds)) → Bool → Row P
 unfolding opened
-identifier-row s h b = give (ArrayedIdentifier.arrayed s) and array-if b so array-if-holds b (λ y q. (h, q))
+identifier-row s h b = give (ArrayedIdentifier.arrayed s) and array-if b so array-if-holds b h
 
 full-type-row : Bool → Row Formed-full-type
 unfolding opened
@@ -111,8 +112,15 @@ module _ (rs ns : List ℕ) where
   pub identifier-kind : Kind rs ns identifier 27
   unfolding opened identifier-row Span
   identifier-kind = by-variant rs ns identifier 27 (
-      (λ n a b f. reads rs ns (identifier-row (part ns a b) (f .text) false))
-      then (λ n a b f. reads rs ns (identifier-row (part ns a b) (f .text) true))
+      (λ n a b f. reads rs ns (identifier-row (part ns a b) (λ ds q. (f .text, q)) false))
+      then (λ n a b f. reads rs ns (identifier-row (part ns a b) (λ ds q. (f .text, q)) true))
+      then tt)
+
+  pub parameter-identifier-kind : Kind rs ns parameter-identifier 27
+  unfolding opened identifier-row Span
+  parameter-identifier-kind = by-variant rs ns parameter-identifier 27 (
+      (λ n a b f. reads rs ns (identifier-row (part ns a b) (λ ds q. (f .text, q)) false))
+      then (λ n a b f. reads rs ns (identifier-row (part ns a b) (λ ds q. (f .text, q)) true))
       then tt)
 
   pub qualifier-kind : Kind rs ns qualifier 28

@@ -7,12 +7,17 @@ use mathlib.Core.Option.{Option, none, some}
 use Prim.Native.Nat.{ℕ, _^_, _<_}
 use lib.ListN.{length}
 use Rattle.words.specs.Keyword.{typeKeywords}
-use Rattle.words.specs.Form.{nameForm, floatForm}
+use Rattle.words.specs.declared.NameSort.the-variants.{Ordinary}
+use Rattle.words.specs.Form.{nameForm, nameSort, floatForm}
 use Rattle.text.specs.Tree.{Expr, Exprs, FunIdentifier, TypeSpecifier, TypeSpecifiers, TypeSpecifierNonArray, ArraySpecifier, ArraySpecifierDimension, StructFieldSpecifier, StructFieldSpecifiers, ArrayedIdentifier, ArrayedIdentifiers, Qualification, TypeQualifier, TypeQualifierSpec, LayoutQualifier, LayoutQualifierSpec, FullySpecifiedType, FunctionParameterDeclaration, FunctionPrototype, Initializer, Initializers, SingleDeclaration, SingleDeclarationNoType, InitDeclaratorList, Block, Declaration, Condition, ForInitStatement, JumpStatement, Statement, Statements, ExternalDeclaration, TranslationUnit}
 
 -- texts and numbers (01, "Tree records")
 abbrev pub Name : List ℕ → Type 0
 Name s = nameForm s ≡ true
+
+-- what a function, a struct or a parameter is called: none of the names that GLSL keeps (02, #105)
+abbrev pub Declared : List ℕ → Type 0
+Declared s = nameSort s ≡ Ordinary
 
 abbrev pub Float : List ℕ → Type 0
 Float s = floatForm s ≡ true
@@ -76,7 +81,7 @@ unfoldable mutual
   Formed-base TypeSpecifierNonArray.no-base = ⊥
   Formed-base (TypeSpecifierNonArray.Keyword v) = KeywordNumber v
   Formed-base (TypeSpecifierNonArray.TypeName s) = Name s
-  Formed-base (TypeSpecifierNonArray.Struct s fs) = IfThere Name s × Formed-fields fs
+  Formed-base (TypeSpecifierNonArray.Struct s fs) = IfThere Declared s × Formed-fields fs
 
   -- an array that is there; dimensions that may be absent
   pub Formed-array : ArraySpecifier → Type 0
@@ -103,6 +108,10 @@ unfoldable mutual
   pub Formed-identifier : ArrayedIdentifier → Type 0
   Formed-identifier ArrayedIdentifier.no-identifier = ⊥
   Formed-identifier (ArrayedIdentifier.arrayed s ds) = Name s × Formed-dimensions ds
+
+  pub Formed-parameter-identifier : ArrayedIdentifier → Type 0
+  Formed-parameter-identifier ArrayedIdentifier.no-identifier = ⊥
+  Formed-parameter-identifier (ArrayedIdentifier.arrayed s ds) = Declared s × Formed-dimensions ds
 
   pub Formed-some-identifiers : ArrayedIdentifiers → Type 0
   Formed-some-identifiers ArrayedIdentifiers.no-identifiers = ⊥
@@ -157,11 +166,11 @@ Formed-full-type (FullySpecifiedType.full-type q t) = Formed-qualification q × 
 unfoldable pub Formed-parameter : FunctionParameterDeclaration → Type 0
 Formed-parameter FunctionParameterDeclaration.no-parameter = ⊥
 Formed-parameter (FunctionParameterDeclaration.Unnamed q t) = Formed-qualification q × Formed-type t
-Formed-parameter (FunctionParameterDeclaration.Named q t i) = Formed-qualification q × Formed-type t × Formed-identifier i
+Formed-parameter (FunctionParameterDeclaration.Named q t i) = Formed-qualification q × Formed-type t × Formed-parameter-identifier i
 
 unfoldable pub Formed-prototype : FunctionPrototype → Type 0
 Formed-prototype FunctionPrototype.no-prototype = ⊥
-Formed-prototype (FunctionPrototype.prototype s t ps) = Name s × Formed-full-type t × Each Formed-parameter ps
+Formed-prototype (FunctionPrototype.prototype s t ps) = Declared s × Formed-full-type t × Each Formed-parameter ps
 
 unfoldable mutual
   pub Formed-initializer : Initializer → Type 0

@@ -1,4 +1,4 @@
--- The refusals of a print in the order of 01 ("Calls"), by their numbers: the settings' (1), else the check's (2 to 12), else the room's (13), else 0. Assumes nothing.
+-- The refusals of a print in the order of 01 ("Calls"), by their numbers: the settings' (1), else the check's (2 to 12, 15), else the room's (13), else 0. Assumes nothing.
 use mathlib.Core.Path.{_≡_, refl, sym}
 use mathlib.Core.Bool.{Bool, true, false, cond}
 use mathlib.Core.List.{List}

@@ -2,6 +2,7 @@
 use mathlib.Core.Path.{_≡_, refl, sym, ap, _∙_}
 use mathlib.Core.Bool.{Bool, true, false, cond}
 use mathlib.Core.List.{List}
+use mathlib.Core.Logic.{_⊎_, inl, inr}
 use Prim.Native.Nat.{ℕ, _<_, _≤_, _^_}
 use native.Mathlib.Omega.{arith}
 use lib.ListN.{getD}
@@ -12,7 +13,7 @@ use Rattle.accept.specs.declared.Checked.{Checked}
 use Rattle.accept.specs.declared.Checked.the-variants as Check
 use Rattle.accept.specs.Refusal.{checkedNumber, checkedPlace}
 use Rattle.accept.specs.Check.{most-records, check}
-use Rattle.accepted.proofs.Places.{refused-there, in-range}
+use Rattle.accepted.proofs.Places.{refused-there, OfTheCheck, in-range}
 use Rattle.checks.proofs.Small.{place-small}
 use Rattle.text.specs.Joined.{somewhere, joinedAnswer}
 use Rattle.joined.specs.Stack.{anyJoined}
@@ -71,14 +72,13 @@ module _ (records names : List ℕ) where
   pub question-small : joinedPlace (joinedOutcome records names) < 2 ^ 32
   question-small = judged-place (check records names Class.expr) (joinedAnswer records names) (place-small records names Class.expr)
 
-  -- never 1 or 13
-  pub question-number : (joinedNumber (joinedOutcome records names) ≡ 1 → ⊥) × (joinedNumber (joinedOutcome records names) ≤ 12)
+  -- its number is 0, for no refusal, or the check's: 2 to 12, or 15, and never 1 or 13
+  pub question-number : (joinedNumber (joinedOutcome records names) ≡ 0) ⊎ OfTheCheck (joinedNumber (joinedOutcome records names))
   question-number = go (joinedOutcome records names) refl
     where
-      go : (o : Whether) → joinedOutcome records names ≡ o → (joinedNumber o ≡ 1 → ⊥) × (joinedNumber o ≤ 12)
-      go No e = ((λ z. omega arith), omega arith)
-      go Yes e = ((λ z. omega arith), omega arith)
+      go : (o : Whether) → joinedOutcome records names ≡ o → (joinedNumber o ≡ 0) ⊎ OfTheCheck (joinedNumber o)
+      go No e = inl refl
+      go Yes e = inl refl
       go (Refused x p) e =
           let there = refused-there records names Class.expr x p (judged-refused (check records names Class.expr) (joinedAnswer records names) x p e) in
-          let range = in-range (recordCount records) x p there in
-          ((λ z. omega (arith, range .1, z)), range .2)
+          inr (in-range (recordCount records) x p there .1)

@@ -1,21 +1,25 @@
--- The rows of document 01, those marked P and its two other units, those of the joined question as 02, #103 mends it, in TIGHT and in OPEN, those of needed spaces (02, #106) and of the new type words (02, #102), of the
--- calls themselves: one table, one theorem, by computation from the bytes of settings, records and names. Assumes nothing.
+-- The rows of document 01, those marked P and its two other units, those of the joined question as 02, #103 mends it, in TIGHT and in OPEN, those of needed spaces (02, #106), of the new type words (02, #102) and of
+-- reserved names (02, #105), of the calls themselves: one table, one theorem, by computation from the bytes of settings, records and names. Assumes nothing.
 use Prim.Native.Nat.{ℕ, _-_}
+use Prim.Native.Char.{code}
 use mathlib.Core.Path.{_≡_, refl}
 use mathlib.Core.Bool.{Bool, cond}
-use mathlib.Core.List.{List, [], _++_, map}
+use mathlib.Core.List.{List, [], _∷_, _++_, map}
 use mathlib.Core.Option.{Option, none, some}
 use lib.Dec.{eqb}
 use lib.ListN.{length, replicate}
-use Rattle.accept.specs.declared.Refusal.the-variants.{RoomTooSmall}
+use Rattle.records.proofs.Made.{rec, plain, many}
+use Rattle.accept.specs.declared.Refusal.the-variants.{RoomTooSmall, ReservedDeclared}
 use Rattle.accepted.proofs.Case.{computing as checking}
+use Rattle.settings.specs.Settings.{TIGHT}
 use Rattle.text.specs.Case.{Case}
-use Rattle.text.proofs.Rows.{rows-of-01, rows-of-103, rows-of-106, rows-of-102}
+use Rattle.text.proofs.Rows.{rows-of-01, rows-of-103, rows-of-106, rows-of-102, rows-of-105}
 use Rattle.text.proofs.Computing.{computing}
 use Rattle.glsl.specs.declared.Printed.{Printed}
 use Rattle.glsl.specs.declared.Printed.the-variants.{Text, Refused}
 use Rattle.glsl.specs.declared.Whether.{Whether}
 use Rattle.glsl.specs.declared.Whether.the-variants.{No, Yes}
+use Rattle.glsl.specs.declared.Whether.the-variants as Joined
 use Rattle.draft.specs.declared.Root.{Root}
 use Rattle.draft.specs.declared.Root.the-variants.{Unit, Expr}
 use Rattle.glsl.specs.Root.{rootText, printOutcome}
@@ -24,7 +28,7 @@ use Rattle.glsl.specs.Joined.{whetherJoined, joinedOutcome}
 
 -- text's table has the rows, with their texts as they are quoted
 abbrev pub rows : List Case
-rows = rows-of-01 ++ rows-of-103 ++ rows-of-106 ++ rows-of-102
+rows = rows-of-01 ++ rows-of-103 ++ rows-of-106 ++ rows-of-102 ++ rows-of-105
 
 -- a print over some room: its answer, every byte of the room, and the part that is handed back
 pub record Print : Type 0 where
@@ -83,6 +87,23 @@ unfolding computing checking fitted outcome whetherJoined
 match room = refl
 
 -- 14 expressions and 3 units of 01, 17 expressions for #103, each in TIGHT and in OPEN; 15 expressions and a unit for #106, each in EXPORT and in OPEN with byte 21 at 1, and the unit
--- twice more; 5 expressions and a unit for #102, each in TIGHT and in OPEN
-pub all-there : length rows ≡ 114
+-- twice more; 5 expressions and a unit for #102, an expression and a unit for #105, each in TIGHT and in OPEN
+pub all-there : length rows ≡ 118
 all-there = refl
+
+-- 02, #105: the prototype `void gl_x();` and the call `struct gl_x {}()` are refused, by all three calls, whatever the room
+abbrev reserved-function : List ℕ
+reserved-function = many 80 1 ++ plain 47 0 ++ rec 40 0 0 0 4 ++ plain 31 0 ++ plain 20 0 ++ plain 21 0
+
+abbrev gl-x : List ℕ
+gl-x = code "g" ∷ code "l" ∷ code "_" ∷ code "x" ∷ []
+
+abbrev reserved-struct : List ℕ
+reserved-struct = many 12 0 ++ plain 20 0 ++ rec 23 1 0 0 4
+
+pub reserved-refused : (room : List ℕ)
+    → (printOutcome Unit TIGHT reserved-function gl-x room ≡ Refused ReservedDeclared 2)
+    × (printOutcome Expr TIGHT reserved-struct gl-x room ≡ Refused ReservedDeclared 2)
+    × (joinedOutcome reserved-struct gl-x ≡ Joined.Refused ReservedDeclared 2)
+unfolding computing checking outcome whetherJoined
+reserved-refused room = (refl, refl, refl)

@@ -22,7 +22,7 @@ whetherJoined (Check.Next m) b = cond b Answer.Yes Answer.No
 abbrev pub joinedOutcome : (records names : List ℕ) → Whether
 joinedOutcome records names = whetherJoined (check records names Class.expr) (joinedAnswer records names)
 
--- 01's number and place; 0 is no refusal, which has no place
+-- the documents' number and place; 0 is no refusal, which has no place
 abbrev pub joinedNumber : Whether → ℕ
 joinedNumber Answer.No = 0
 joinedNumber Answer.Yes = 0
@@ -38,7 +38,7 @@ abbrev pub refusedAt : Checked → ℕ
 refusedAt (Check.Refused x p) = p
 refusedAt (Check.Next m) = 0
 
--- what the question promises: its answer, and by 01's numbers the check's refusal at its place, or none
+-- what the question promises: its answer, and by the documents' numbers the check's refusal at its place, or none
 pub record Answers (records names : List ℕ) (r : Whether) : Type 0 where
   pub answered : r ≡ joinedOutcome records names
   pub numbered : joinedNumber r ≡ checkedNumber (check records names Class.expr)

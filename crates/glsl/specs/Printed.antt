@@ -25,7 +25,7 @@ use Rattle.glsl.specs.declared.Printed.the-variants as Answer
 unfoldable pub fitted : (text room : List ℕ) → Printed
 fitted text room = cond (leb (length text) (length room)) (Answer.Text (length text)) (Answer.Refused Why.RoomTooSmall (length text))
 
--- the refusals in 01's order: settings (1), records and names (2 to 12), room (13)
+-- the refusals in 01's order: settings (1), records and names (2 to 12, and 02's 15 behind 11), room (13)
 unfoldable pub outcome : SettingsRead → Checked → (text room : List ℕ) → Printed
 outcome Settings.Refused c text room = Answer.Refused Why.SettingsOutOfRange 0
 outcome (Settings.Read s) (Check.Refused x p) text room = Answer.Refused x p
@@ -41,7 +41,7 @@ abbrev pub front : Printed → (text : List ℕ) → List ℕ
 front (Answer.Text n) text = text
 front (Answer.Refused x p) text = []
 
--- 01's number and place; 0 is no refusal, which has no place
+-- the documents' number and place; 0 is no refusal, which has no place
 abbrev pub refusalNumber : Printed → ℕ
 refusalNumber (Answer.Text n) = 0
 refusalNumber (Answer.Refused x p) = number x
@@ -55,14 +55,14 @@ unfoldable pub printedBits : Printed → ℤ
 printedBits (Answer.Text n) = pos n
 printedBits (Answer.Refused x p) = refusalAnswer x p
 
--- what print_unit_into and print_expr_into promise: the answer, 01's number and place of it, and every byte of the room
+-- what print_unit_into and print_expr_into promise: the answer, the documents' number and place of it, and every byte of the room
 pub record Prints (o : Printed) (text room room′ : List ℕ) (r : Printed) : Type 0 where
   pub answered : r ≡ o
   pub numbered : refusalNumber r ≡ refusalNumber o
   pub placed : refusalPlace r ≡ refusalPlace o
   pub left : room′ ≡ roomAfter o text room
 
--- print_unit and print_expr: the part that is handed back, and 01's number and place
+-- print_unit and print_expr: the part that is handed back, and the documents' number and place
 pub record HandsBack (o : Printed) (text part : List ℕ) (no place : ℕ) : Type 0 where
   pub handed : part ≡ front o text
   pub numbered : no ≡ refusalNumber o

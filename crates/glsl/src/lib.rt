@@ -15,7 +15,7 @@ use settings::Settings;
 use settings::SettingsRead;
 use word_table::rows::Words;
 
-// The answer of a print: the length of its text, or the refusal with its place. specs/Printed.antt gives 01's number of each case.
+// The answer of a print: the length of its text, or the refusal with its place. specs/Printed.antt gives the documents' number of each case.
 pub enum Printed {
     Text(usize),
     Refused(Refusal, usize),
@@ -66,7 +66,7 @@ pub fn print_expr_into(settings: &[u8], records: &[u8], names: &[u8], room: &mut
     print_into(Root::Expr, settings, records, names, room)
 }
 
-// 01's number of an answer, 0 for a text.
+// The documents' number of an answer, 0 for a text.
 fn number_of(o: Printed) -> u64
     ensures { λ r. ⌜ r ≡ refusalNumber o ⌝ }
 {
@@ -187,7 +187,7 @@ pub extern "C" fn glsl_print_expr(
     print_bits(Root::Expr, settings, records, names, room)
 }
 
-// The answer to the joined question. specs/Joined.antt gives 01's number of each case.
+// The answer to the joined question. specs/Joined.antt gives the documents' number of each case.
 pub enum Whether {
     No,
     Yes,

@@ -33,6 +33,9 @@ none-so-far m x = by (nameByte x)
     by true = let e : m + 0 ≡ m = omega arith in ap (λ (n : ℕ). eqb n 0) e ∙ sym (and-true (eqb m 0))
     by false = ne-eqb (m + 1) 0 (λ e. omega arith) ∙ sym (and-false (eqb m 0))
 
+pub no-flaw : (x : ℕ) → eqb (flaw x) 0 ≡ nameByte x
+no-flaw x = let e : 0 + flaw x ≡ flaw x = omega arith in ap (λ (n : ℕ). eqb n 0) (sym e) ∙ none-so-far 0 x
+
 -- what all have, each has, and so have all from k on
 all-has : (f : ℕ → Bool) (s : List ℕ) (j : ℕ) → j < length s → all f s && f (getD s j 0) ≡ all f s
 unfolding all

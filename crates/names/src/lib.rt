@@ -1,5 +1,7 @@
-// Whether a text has the form of a name, which no fixed word has. The table of words is lent; it tells a name's bytes from others too.
+// What a text is as a name: an ordinary one, one that GLSL keeps for itself, or none (a fixed word is none). The table of words is lent; it tells a name's
+// bytes from others too.
 ghost use mathlib.Core.Path.{_≡_};
+ghost use mathlib.Core.Bool.{true};
 ghost use Prim.Native.Nat.{_+_, _<_, _≤_};
 ghost use lib.ListN.{length, take, drop};
 ghost use Rattle.words.specs.Form as Form;
@@ -9,6 +11,7 @@ ghost use Rattle.word_table.specs.Table as Table;
 use word_table::rows::FLAWS;
 use word_table::rows::SLOTS;
 use word_table::rows::Words;
+use words::NameSort;
 
 // How many bytes of a name are looked at in one loop, whose length is constant, so that it compiles to no loop. A text that has no more is short.
 const AT_ONCE: usize = 8;
@@ -129,8 +132,8 @@ pub fn is_fixed_word(table: &Words, s: &[u8]) -> bool
     words::same(word_table::row(table, k), s)
 }
 
-// Whether s has the form of a name, with the table lent.
-pub fn name_form(table: &Words, s: &[u8]) -> bool
+// Whether s has the form of a name.
+fn name_form(table: &Words, s: &[u8]) -> bool
     requires { ⌜ now table ≡ Table.table ⌝ }
     ensures { λ r. ⌜ r ≡ Form.nameForm (now (s .entry)) ⌝ }
 {
@@ -149,10 +152,65 @@ pub fn name_form(table: &Words, s: &[u8]) -> bool
     !is_fixed_word(table, s)
 }
 
-// Whether s has the form of a name. It makes the table for itself, which costs more than the answer: who asks often lends one to `name_form`.
-pub fn is_name(s: &[u8]) -> bool
-    ensures { λ r. ⌜ r ≡ Form.nameForm (now (s .entry)) ⌝ }
+// Whether s begins with gl_. For most texts the first byte tells.
+fn is_reserved(s: &[u8]) -> bool
+    ensures { λ r. ⌜ r ≡ Form.reserved (now (s .entry)) ⌝ }
+{
+    if s.len() < 3 {
+        return false;
+    }
+    if s[0] != b'g' {
+        return false;
+    }
+    (s[1] == b'l') & (s[2] == b'_')
+}
+
+// Whether all bytes are a name's, one after the other. (`all_name_bytes` is compiled into its one caller; a second one would cost all names a call.)
+fn name_bytes_one_by_one(table: &Words, s: &[u8]) -> bool
+    requires { ⌜ now table ≡ Table.table ⌝ }
+    ensures { λ r. ⌜ r ≡ Form.all Form.nameByte (now (s .entry)) ⌝ }
+{
+    let mut ok = true;
+    let mut i: usize = 0;
+    while i < s.len() {
+        ok = ok & (flaws_of(table, s[i]) == 0);
+        i += 1;
+    }
+    ok
+}
+
+// What s is as a name, where it begins with gl_, as no fixed word does.
+fn reserved_sort(table: &Words, s: &[u8]) -> NameSort
+    requires { ⌜ (now table ≡ Table.table) × (Form.reserved (now s) ≡ true) ⌝ }
+    ensures { λ r. ⌜ r ≡ Form.nameSort (now (s .entry)) ⌝ }
+{
+    if LONGEST_NAME < s.len() {
+        return NameSort::NoName;
+    }
+    if name_bytes_one_by_one(table, s) {
+        return NameSort::Reserved;
+    }
+    NameSort::NoName
+}
+
+// What s is as a name, with the table lent. What begins with gl_ is told first and apart: so it costs other names least (docs/SPEED.md, "Reserved names").
+pub fn name_sort(table: &Words, s: &[u8]) -> NameSort
+    requires { ⌜ now table ≡ Table.table ⌝ }
+    ensures { λ r. ⌜ r ≡ Form.nameSort (now (s .entry)) ⌝ }
+{
+    if is_reserved(s) {
+        return reserved_sort(table, s);
+    }
+    if name_form(table, s) {
+        return NameSort::Ordinary;
+    }
+    NameSort::NoName
+}
+
+// What s is as a name. It makes the table for itself, which costs more than the answer: who asks often lends one to `name_sort`.
+pub fn judge_name(s: &[u8]) -> NameSort
+    ensures { λ r. ⌜ r ≡ Form.nameSort (now (s .entry)) ⌝ }
 {
     let t = word_table::table();
-    name_form(&t, s)
+    name_sort(&t, s)
 }

@@ -17,5 +17,9 @@ module _ (t : List ℕ) (c k : ℕ) {w x y : ℕ} where
   unfolding allowedAt
   variant-taken e p q = rw (p, q, e) refl
 
+pub declared-here : (t : List ℕ) (c : ℕ) {w x : ℕ} → w ≡ c % 32 → x ≡ cell t (first-class-row + 8 * w + 5) → eqb x 1 ≡ allowedAt t c .declares
+unfolding allowedAt
+declared-here t c e p = rw (p, e) refl
+
 pub last-here : (t : List ℕ) (k : ℕ) {w x : ℕ} → w ≡ k → x ≡ cell t (2 * w) → x ≡ lastAt t k
 last-here t k e p = p ∙ ap (λ (n : ℕ). cell t (2 * n)) e

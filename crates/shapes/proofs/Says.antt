@@ -58,7 +58,7 @@ abbrev head : List (List ℕ) → ℕ → ℕ → ℕ
 head hs k i = cell (getD hs k []) i
 
 abbrev allowedIn : List ℕ → Allowed
-allowedIn u = record { low = cell u 0; high = cell u 1; also = cell u 2; least = cell u 3; most = cell u 4 }
+allowedIn u = record { low = cell u 0; high = cell u 1; also = cell u 2; least = cell u 3; most = cell u 4; declares = eqb (cell u 5) 1 }
 
 -- what is read from a cut that begins at p is what stands there in the table
 module _ (t : List ℕ) (p : ℕ) where
@@ -80,7 +80,7 @@ module _ (t : List ℕ) (p : ℕ) where
 
   allowed-cut : (c : ℕ) → p ≡ classRow c → allowedIn (drop p t) ≡ allowedAt t c
   unfolding allowedAt
-  allowed-cut c q = let e : p + 0 ≡ p = omega arith in rw (cell-cut 0, cell-cut 1, cell-cut 2, cell-cut 3, cell-cut 4, e, q) refl
+  allowed-cut c q = let e : p + 0 ≡ p = omega arith in rw (cell-cut 0, cell-cut 1, cell-cut 2, cell-cut 3, cell-cut 4, cell-cut 5, e, q) refl
 
 -- how many rows there are, and variants at most
 abbrev row-count : ℕ

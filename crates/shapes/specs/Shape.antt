@@ -7,11 +7,20 @@ use lib.Dec.{eqb, ltb}
 use lib.ListN.{replicate}
 use Rattle.records.specs.Record.{bit0, bit1, bit2}
 use Rattle.shapes.specs.Class.{Class}
-use Rattle.shapes.specs.Class.Class.{expr, callee, type, base, array, dimension, field, identifier, qualifier, spec, precision, layout-id, full-type, prototype, parameter, declarators, single, declarator, initializer, block, declaration, compound, statement, condition, for-init, external}
+use Rattle.shapes.specs.Class.Class.{expr, callee, type, base, array, dimension, field, identifier, parameter-identifier, qualifier, spec, precision, layout-id, full-type, prototype, parameter, declarators, single, declarator, initializer, block, declaration, compound, statement, condition, for-init, external}
 
--- what the fields a and b hold: nothing, 32 bits in a, or T (a text's offset and length) in the form of a name or of a float
+-- what the fields a and b hold: nothing, 32 bits in a, or T (a text's offset and length) in the form of a name, of a name that
+-- is declared there (02, #105), or of a float
 pub data Fields : Type 0 where
-  empty integer name float : Fields
+  empty integer name declared float : Fields
+
+-- what they hold in a place that declares names, or does not
+abbrev pub fieldsIn : Bool → Fields → Fields
+fieldsIn declares Fields.empty = Fields.empty
+fieldsIn declares Fields.integer = Fields.integer
+fieldsIn declares Fields.name = cond declares Fields.declared Fields.name
+fieldsIn declares Fields.declared = Fields.declared
+fieldsIn declares Fields.float = Fields.float
 
 -- what the count is: 0, any number, or 1 and more
 pub data Count : Type 0 where
@@ -71,7 +80,7 @@ rows v =
     ∷ kind 20 1 empty unused (one base ++ when (eqb v 1) (one array))
     ∷ kind 21 118 empty unused []
     ∷ kind 22 0 name unused []
-    ∷ kind 23 1 (cond (eqb v 1) name empty) any (several field)
+    ∷ kind 23 1 (cond (eqb v 1) declared empty) any (several field)
     ∷ kind 24 0 empty positive (several dimension)
     ∷ kind 25 1 empty unused (when (eqb v 1) (one expr))
     ∷ kind 26 1 empty positive (when (eqb v 1) (one qualifier) ++ one type ++ several identifier)
@@ -82,8 +91,8 @@ rows v =
     ∷ kind 30 2 (cond (ltb v 2) name empty) unused (when (eqb v 1) (one expr))
     ∷ kind 31 1 empty unused (when (eqb v 1) (one qualifier) ++ one type)
     -- prototype, parameter, declarator list, first declarator, next declarator, initializer, block, declaration
-    ∷ kind 40 0 name any (one full-type ++ several parameter)
-    ∷ kind 41 3 empty unused (when (bit1 v) (one qualifier) ++ one type ++ when (bit0 v) (one identifier))
+    ∷ kind 40 0 declared any (one full-type ++ several parameter)
+    ∷ kind 41 3 empty unused (when (bit1 v) (one qualifier) ++ one type ++ when (bit0 v) (one parameter-identifier))
     ∷ kind 42 0 empty any (one single ++ several declarator)
     ∷ kind 43 7 (cond (bit0 v) name empty) unused (one full-type ++ when (bit1 v) (one array) ++ when (bit2 v) (one initializer))
     ∷ kind 44 1 empty unused (one identifier ++ when (eqb v 1) (one initializer))

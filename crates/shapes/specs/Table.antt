@@ -8,7 +8,7 @@ use Prim.Native.Nat.{ℕ, zero, suc, _+_, _*_, _/_, _%_, _<_, _≤_}
 use lib.Dec.{eqb}
 use lib.ListN.{getD}
 use Rattle.shapes.specs.Class.{Class, Allowed, allowed}
-use Rattle.shapes.specs.Class.Class.{expr, callee, type, base, array, dimension, field, identifier, qualifier, spec, precision, layout-id, full-type, prototype, parameter, declarators, single, declarator, initializer, block, declaration, compound, statement, condition, for-init, external, unit}
+use Rattle.shapes.specs.Class.Class.{expr, callee, type, base, array, dimension, field, identifier, parameter-identifier, qualifier, spec, precision, layout-id, full-type, prototype, parameter, declarators, single, declarator, initializer, block, declaration, compound, statement, condition, for-init, external, unit}
 use Rattle.shapes.specs.Shape.{Fields, Count, Part, Shape, lastVariant, shapeOf}
 
 -- where the rows and the rows of the classes begin, and where the table ends
@@ -37,7 +37,7 @@ cell t p = getD t p 0
 
 -- classes by number; the numbers that are left over are `unit` too
 unfoldable pub classOf : ℕ → Class
-classOf c = getD (expr ∷ callee ∷ type ∷ base ∷ array ∷ dimension ∷ field ∷ identifier ∷ qualifier ∷ spec ∷ precision ∷ layout-id ∷ full-type ∷ prototype ∷ parameter ∷ declarators ∷ single ∷ declarator ∷ initializer ∷ block ∷ declaration ∷ compound ∷ statement ∷ condition ∷ for-init ∷ external ∷ []) (c % most-classes) unit
+classOf c = getD (expr ∷ callee ∷ type ∷ base ∷ array ∷ dimension ∷ field ∷ identifier ∷ parameter-identifier ∷ qualifier ∷ spec ∷ precision ∷ layout-id ∷ full-type ∷ prototype ∷ parameter ∷ declarators ∷ single ∷ declarator ∷ initializer ∷ block ∷ declaration ∷ compound ∷ statement ∷ condition ∷ for-init ∷ external ∷ []) (c % most-classes) unit
 
 abbrev pub classRow : ℕ → ℕ
 classRow c = first-class-row + row-size * (c % most-classes)
@@ -49,6 +49,7 @@ allowedAt t c = record {
   also = cell t (classRow c + 2);
   least = cell t (classRow c + 3);
   most = cell t (classRow c + 4);
+  declares = eqb (cell t (classRow c + 5)) 1;
 }
 
 -- the head of a kind: its last variant, and the row of its first
@@ -60,7 +61,7 @@ rowAt t k v = first-row + row-size * (cell t (2 * k + 1) + v)
 
 -- a row: what a and b hold, what the count is, and the parts
 abbrev pub fieldsOf : ℕ → Fields
-fieldsOf x = getD (Fields.empty ∷ Fields.integer ∷ Fields.name ∷ []) x Fields.float
+fieldsOf x = getD (Fields.empty ∷ Fields.integer ∷ Fields.name ∷ Fields.declared ∷ []) x Fields.float
 
 abbrev pub countOf : ℕ → Count
 countOf x = getD (Count.unused ∷ Count.any ∷ []) x Count.positive

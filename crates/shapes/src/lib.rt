@@ -56,6 +56,13 @@ pub fn takes_variant(t: &Shapes, c: u8, v: u8) -> bool
     (least <= v) & (v <= most)
 }
 
+// Is a name declared where class c is asked for?
+pub fn declares(t: &Shapes, c: u8) -> bool
+    ensures { λ r. ⌜ r ≡ Table.allowedAt (now (t .entry)) c .declares ⌝ }
+{
+    cell(t, FIRST_CLASS + 8 * wide(c % 32) + 5) == 1
+}
+
 // The last variant of kind k.
 pub fn last_variant(t: &Shapes, k: u8) -> u8
     ensures { λ r. ⌜ r ≡ Table.lastAt (now (t .entry)) k ⌝ }

@@ -1,4 +1,4 @@
--- Document 01's texts to match, those of #103, #106 and #102, and some of our own, from the bytes of the records: one table, one theorem, by computation. Assumes nothing.
+-- Document 01's texts to match, those of #103, #106, #102 and #105, and some of our own, from the bytes of the records: one table, one theorem, by computation. Assumes nothing.
 use Prim.Native.Nat.{ℕ}
 use Prim.Native.String.{String}
 use mathlib.Core.Path.{_≡_, refl}
@@ -180,6 +180,12 @@ rows-of-102 =
     ++ expr (many 12 0 ++ rec 1 0 0 0 11) "isampler2MS" "isampler2MS()" "isampler2MS()" false
     ++ unit (many 80 1 ++ uniform 0 ++ keyword 92) "x" "uniform image2D x;" "uniform image2D x;"
 
+-- 02, #105: reserved names that are used, and those of a block and of its field
+abbrev pub rows-of-105 : List Case
+rows-of-105 =
+    expr (rec 13 0 0 11 1 ++ rec 1 0 0 0 11) "gl_Positionx" "gl_Position.x" "gl_Position.x" false
+    ++ unit (many 80 1 ++ plain 47 3 ++ rec 46 0 1 0 12 ++ many 28 1 ++ plain 29 3 ++ many 26 1 ++ keyword 8 ++ rec 27 0 0 12 11) "gl_PerVertexgl_Position" "out gl_PerVertex{vec4 gl_Position;};" "out gl_PerVertex {\n    vec4 gl_Position;\n};"
+
 -- what no row of document 01 sees: a flush, collapse, nested blocks (texts of the Rust module)
 abbrev if-else : List ℕ
 if-else = many 80 1 ++ function 0 ++ block 1 ++ plain 62 1 ++ var 1 ++ block 1 ++ return ++ block 1 ++ return
@@ -198,7 +204,7 @@ our-rows =
     ++ unit nested-structs "sSxt" "struct S{struct {float x;} t;} s;" "struct S {\n    struct  {\n        float x;\n    } t;\n} s;"
 
 abbrev pub rows : List Case
-rows = rows-of-01 ++ rows-of-103 ++ rows-of-106 ++ rows-of-102 ++ our-rows
+rows = rows-of-01 ++ rows-of-103 ++ rows-of-106 ++ rows-of-102 ++ rows-of-105 ++ our-rows
 
 -- the definition gives each row's outcome
 pub match : map defined rows ≡ map (λ c. c .outcome) rows

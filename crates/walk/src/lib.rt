@@ -14,7 +14,7 @@ use word_table::rows::Words;
 // The classes of the two roots, by number.
 const EXPR: u8 = 0;
 
-const UNIT: u8 = 26;
+const UNIT: u8 = 27;
 
 // The parts that a row of the table has room for.
 const PARTS: usize = 4;

@@ -3,4 +3,5 @@ pub mod Laws
 pub mod Floats
 pub mod Search
 pub mod Names
+pub mod Sorts
 pub mod Examples

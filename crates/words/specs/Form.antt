@@ -1,14 +1,17 @@
--- The form of a name and of a float's text (01, "Tree records", the paragraph behind the table). Assumes nothing.
+-- The form of a name and of a float's text (01, "Tree records", the paragraph behind the table), and the names that GLSL keeps for itself (02, #105).
+-- Assumes nothing.
 use mathlib.Core.Bool.{Bool, true, false, not, _&&_, _||_, cond}
 use mathlib.Core.List.{List, [], _∷_}
 use Prim.Native.Nat.{ℕ}
 use Prim.Native.Char.{code}
 use Prim.Native.String.{String}
-use lib.ListN.{length, getD}
+use lib.ListN.{length, getD, take}
 use lib.Dec.{eqb}
 use Rattle.words.specs.Bytes.{bytes}
 unfoldable pub use Rattle.words.specs.Letter.{between, digit, letter, nameByte}
 use Rattle.words.specs.Keyword.{fixedWords}
+use Rattle.words.specs.declared.NameSort.{NameSort}
+use Rattle.words.specs.declared.NameSort.the-variants as Sort
 
 -- how long a name and a float's text may be
 abbrev pub longest-name : ℕ
@@ -35,6 +38,14 @@ oneOf (w ∷ ws) s = same (bytes w) s || oneOf ws s
 -- 1 to 255 letters, digits and underscores, no digit first, and no fixed word
 unfoldable pub nameForm : List ℕ → Bool
 nameForm s = between 1 longest-name (length s) && not (digit (getD s 0 0)) && all nameByte s && not (oneOf fixedWords s)
+
+-- GLSL keeps the names that begin with gl and an underscore (4.60 §3.7)
+unfoldable pub reserved : List ℕ → Bool
+reserved s = same (take 3 s) (bytes "gl_")
+
+-- what a text is as a name (02, #105)
+unfoldable pub nameSort : List ℕ → NameSort
+nameSort s = cond (nameForm s) (cond (reserved s) Sort.Reserved Sort.Ordinary) Sort.NoName
 
 -- the digits at the front of s, and what is behind them
 unfoldable pub digits : List ℕ → List ℕ

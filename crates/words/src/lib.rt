@@ -1,10 +1,18 @@
 // The words that GLSL fixes and a printer writes, and the form of a name and of a float's text, are in specs/. The code: whether a text has the form of a float's.
+// (Crate names judges names, by a table of the words.)
 ghost use mathlib.Core.Path.{_≡_};
 ghost use Prim.Native.Nat.{_≤_};
 ghost use lib.ListN.{length, drop};
 ghost use Rattle.words.specs.Form as Form;
 
 const LONGEST_FLOAT: usize = 400;
+
+// What a text is as a name (specs/Form, nameSort).
+pub enum NameSort {
+    Ordinary,
+    Reserved,
+    NoName,
+}
 
 fn is_between(low: u8, high: u8, x: u8) -> bool
     ensures { λ r. ⌜ r ≡ Form.between low high x ⌝ }

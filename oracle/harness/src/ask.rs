@@ -5,16 +5,16 @@ use oracle::answer::{answer, Outcome, Question};
 use oracle::mended::Counts;
 use oracle::read;
 use oracle::record::SIZE;
-use oracle::refusal::Refusal;
+use oracle::refusal::{Reason, Refusal};
 
-/// Refusals' numbers, and 0 for none.
-pub const NUMBERS: usize = 14;
+/// As many as refusals' numbers go, and 0 for none. (There is no 14.)
+pub const COUNTS: usize = 16;
 
 /// What the two said to a question.
 #[derive(Default)]
 pub struct Said {
     /// How many calls the oracle answers with each number.
-    pub calls: [u64; NUMBERS],
+    pub calls: [u64; COUNTS],
     /// Whether the tree is good, and its text or record count was compared.
     pub is_good: bool,
     /// Whether it is joined, where that was compared.
@@ -25,6 +25,8 @@ pub struct Said {
     pub mended: Counts,
     /// Prints into a room that fits, a larger one, and one that is a byte too small.
     pub rooms: [u64; 3],
+    /// The record at which the oracle finds a reserved name declared.
+    pub declared: Option<usize>,
     /// Where they differ first: the oracle's answer and the library's.
     pub difference: Option<[String; 2]>,
 }
@@ -33,6 +35,9 @@ impl Said {
     /// Counts a call that the oracle answers so.
     fn call(&mut self, oracle: Code, difference: Option<[String; 2]>) {
         self.calls[oracle.number()] += 1;
+        if oracle.number() == Reason::Declared as usize {
+            self.declared = Some(oracle.place());
+        }
         if self.difference.is_none() {
             self.difference = difference;
         }
@@ -68,14 +73,19 @@ impl Code {
             0
         }
     }
+
+    /// The refusal's place.
+    fn place(self) -> usize {
+        // The low half.
+        (self.0.unsigned_abs() & u64::from(u32::MAX)) as usize
+    }
 }
 
 impl std::fmt::Display for Code {
     fn fmt(&self, f: &mut std::fmt::Formatter<'_>) -> std::fmt::Result {
-        let bits = self.0.unsigned_abs();
         match self.number() {
             0 => write!(f, "{}", self.0),
-            number => write!(f, "refused {number} at {}", bits & u64::from(u32::MAX)),
+            number => write!(f, "refused {number} at {}", self.place()),
         }
     }
 }
@@ -155,7 +165,7 @@ mod tests {
     use super::*;
     use oracle::answer::Root;
     use oracle::cases::{tight, with_spaces};
-    use oracle::tree::{all, keyword, many, plain, var};
+    use oracle::tree::{all, keyword, many, plain, rec, var};
 
     /// `a--b`, which is joined.
     fn question() -> Question {
@@ -208,6 +218,23 @@ mod tests {
         let call = |variant| tight(Root::Expr, all(&[&many(12, 0), &keyword(variant)]), "");
         let said = [2, 69, 73].map(|variant| print(print_well, |_| 0, &call(variant)));
         assert_eq!(said.map(|said| said.mended), [[0, 0], [1, 0], [0, 1]]);
+    }
+
+    /// By the check, the print and the joined question, which also has it where the settings are refused.
+    #[test]
+    fn declared_names_are_counted_and_their_places_told() {
+        let call = tight(Root::Expr, all(&[&many(12, 0), &plain(20, 0), &rec(23, 1, 0, 0, 3)]), "gl_");
+        let without_settings = Question { settings: Vec::new(), ..call.clone() };
+        let said = [
+            check(|_| 3, &call),
+            print(print_well, |_| 0, &call),
+            print(print_well, |_| 0, &without_settings),
+            print(print_well, |_| 1, &question()),
+        ];
+        let counts = said.each_ref().map(|said| (said.calls[15], said.declared));
+        assert_eq!(counts, [(1, Some(2)), (2, Some(2)), (1, Some(2)), (0, None)]);
+        let shown = said[0].difference.as_ref().map(|[oracle, library]| format!("{oracle} / {library}"));
+        assert_eq!(shown, Some("records: refused 15 at 2 / records: 3".to_owned()));
     }
 
     #[test]

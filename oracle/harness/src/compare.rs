@@ -1,11 +1,12 @@
 //! Asks the library and the oracle the same questions, and counts.
 
-use crate::ask::{Said, NUMBERS};
+use crate::ask::{Said, COUNTS};
 use oracle::answer::{Question, Root};
-use oracle::cases::{cover, damage, large, limits, short, signs, small, with_spaces};
+use oracle::cases::{cover, damage, large, limits, reserved, short, signs, small, with_spaces};
 use oracle::grow;
 use oracle::line;
 use oracle::random::Random;
+use oracle::refusal;
 use oracle::settings;
 use oracle::tables::MISSPELT;
 use std::collections::BTreeMap;
@@ -31,7 +32,7 @@ struct Family<'a> {
 struct Tally {
     questions: u64,
     /// Calls by the number of the oracle's refusal, 0 for none.
-    calls: [u64; NUMBERS],
+    calls: [u64; COUNTS],
     /// Joined questions that the oracle answers by no, and by yes.
     joined: [u64; 2],
     /// Questions whose text has needed spaces.
@@ -85,7 +86,7 @@ impl Tally {
         let calls: u64 = self.calls.iter().sum();
         let [no, yes] = self.joined;
         let columns = [self.questions, calls, self.differing, no, yes, self.spaced, self.mended];
-        let columns = columns.into_iter().chain(self.calls);
+        let columns = columns.into_iter().chain(numbers().map(|number| self.calls[number]));
         println!("{name:<18}{}", columns.map(|count| format!("{count:>9}")).collect::<String>());
         if let Some((question, [oracle, library])) = &self.shortest {
             // As `oracle answer` reads it.
@@ -101,28 +102,52 @@ fn add(sums: &mut [u64], counts: &[u64]) {
     }
 }
 
+/// The numbers that calls are counted by: 0 for none, then the refusals'.
+fn numbers() -> impl Iterator<Item = usize> {
+    [0].into_iter().chain(refusal::NUMBERS.map(usize::from))
+}
+
 /// The line above the tallies'.
 fn heading(root: Root) -> String {
     let columns = ["asked", "calls", "differ", "apart", "joined", "spaced", "mended", "good"];
-    let columns = columns.into_iter().map(str::to_owned).chain((1..NUMBERS).map(|number| number.to_string()));
+    let columns = columns.into_iter().map(str::to_owned).chain(numbers().skip(1).map(|number| number.to_string()));
     format!("{:<18}{}", format!("{root:?} questions"), columns.map(|word| format!("{word:>9}")).collect::<String>())
 }
 
-/// How often good trees held each kind and variant, and how often they were printed with each value of each settings byte.
+/// How often good trees held each kind and variant, and how often they were printed with each value of each settings byte; how
+/// often they held each kind and variant with a reserved name, and how often each was refused for declaring one.
 struct Met {
     pairs: BTreeMap<(u8, u8), u64>,
     settings: BTreeMap<(usize, u8), u64>,
+    reserved: BTreeMap<(u8, u8), u64>,
+    declared: BTreeMap<(u8, u8), u64>,
 }
 
 impl Met {
     fn none(root: Root) -> Self {
-        let pairs = cover::pairs(root).map(|pair| (pair, 0)).collect();
-        Self { pairs, settings: settings::values().map(|value| (value, 0)).collect() }
+        Self {
+            pairs: cover::pairs(root).map(|pair| (pair, 0)).collect(),
+            settings: settings::values().map(|value| (value, 0)).collect(),
+            reserved: reserved::using_pairs(root).map(|pair| (pair, 0)).collect(),
+            declared: reserved::declaring_pairs(root).map(|pair| (pair, 0)).collect(),
+        }
     }
 
-    fn count(&mut self, question: &Question, is_printed: bool) {
+    fn count(&mut self, question: &Question, said: &Said) {
+        if said.is_good {
+            self.count_good(question, said.rooms != [0; 3]);
+        }
+        if let Some(record) = said.declared.and_then(|place| cover::records(question).nth(place)) {
+            *self.declared.entry((record.kind, record.variant)).or_default() += 1;
+        }
+    }
+
+    fn count_good(&mut self, question: &Question, is_printed: bool) {
         for record in cover::records(question) {
             *self.pairs.entry((record.kind, record.variant)).or_default() += 1;
+        }
+        for pair in reserved::pairs_in(question) {
+            *self.reserved.entry(pair).or_default() += 1;
         }
         if is_printed {
             for value in question.settings.iter().copied().enumerate() {
@@ -131,8 +156,8 @@ impl Met {
         }
     }
 
-    /// Prints how many pairs and settings values were met, which were not, and the pairs' counts by kind. Whether all were
-    /// met; settings are only asked for where something was printed.
+    /// Prints how many of each were met, which were not, and the pairs' counts by kind. Whether all were met; settings are only
+    /// asked for where something was printed.
     fn print(&self, is_printed: bool) -> bool {
         let all_pairs = missing("pairs of kind and variant met in good trees", &self.pairs) == 0;
         let mut kinds: BTreeMap<u8, Vec<u64>> = BTreeMap::new();
@@ -144,7 +169,10 @@ impl Met {
             format!("{kind}: {variants} from {least}")
         });
         println!("    kind: variants from the least count: {}", shown.collect::<Vec<_>>().join("; "));
-        all_pairs && (!is_printed || missing("settings values met in good trees", &self.settings) == 0)
+        let all_reserved = missing("pairs with a reserved name met in good trees", &self.reserved) == 0;
+        let all_declared = missing("pairs refused for a reserved name that they declare", &self.declared) == 0;
+        let all_settings = !is_printed || missing("settings values met in good trees", &self.settings) == 0;
+        all_pairs && all_reserved && all_declared && all_settings
     }
 }
 
@@ -188,11 +216,12 @@ fn are_mended(texts: [u64; MISSPELT.len()]) -> bool {
 }
 
 /// Asks everything with this root; prints a line for each family, the sum, and the shortest question of each family that
-/// differs. Whether nothing differs, every kind and variant, and every value of every settings byte, was met in good trees,
-/// expressions in which signs meet were joined as well as apart, needed spaces were printed, and each keyword that is mended.
+/// differs. Whether nothing differs, every kind and variant, every one with a reserved name that may have it, and every value of
+/// every settings byte, was met in good trees, every one that declares its name was refused for a reserved one, expressions in
+/// which signs meet were joined as well as apart, needed spaces were printed, and each keyword that is mended.
 pub fn run(root: Root, seed: u64, cases: u64, ask: impl Fn(&Question) -> Said) -> bool {
     let trees = cover::smallest(root, seed, GROWN_TO_CHOOSE);
-    let words = limits::near_words();
+    let words = [limits::near_words(), reserved::texts()].concat();
     let every_byte: Vec<u8> = (0..=255).collect();
     let (mut all, mut met, mut signs) = (Tally::default(), Met::none(root), [0; 2]);
     println!("{}", heading(root));
@@ -200,9 +229,7 @@ pub fn run(root: Root, seed: u64, cases: u64, ask: impl Fn(&Question) -> Said) -
         let mut tally = Tally::default();
         for question in family.questions.filter(|question| question.root == root) {
             let said = ask(&question);
-            if said.is_good {
-                met.count(&question, said.rooms != [0; 3]);
-            }
+            met.count(&question, &said);
             tally.count(question, said);
         }
         if tally.questions > 0 {
@@ -258,7 +285,7 @@ fn families<'a>(
 }
 
 /// Families whose questions are all in TIGHT, or in OPEN.
-fn others_in_tight(root: Root, seed: u64, cases: u64, trees: &[Question]) -> [Family<'_>; 11] {
+fn others_in_tight(root: Root, seed: u64, cases: u64, trees: &[Question]) -> [Family<'_>; 12] {
     let family = |name, questions| Family { name, questions };
     [
         family("one record", Box::new(short::one())),
@@ -271,6 +298,7 @@ fn others_in_tight(root: Root, seed: u64, cases: u64, trees: &[Question]) -> [Fa
         family("long texts", Box::new(limits::long_texts())),
         family("short texts", Box::new(limits::short_texts())),
         family("offsets", Box::new(limits::offsets())),
+        family("reserved", Box::new(reserved::questions(root))),
         family("large", Box::new((0..cases.div_ceil(1_000)).flat_map(move |case| large_ones(root, seed, case)))),
     ]
 }
@@ -335,6 +363,33 @@ mod tests {
             .enumerate()
             .map(|(at, question)| (at % 3, question.settings.get(settings::SPACES_WHERE_NEEDED).copied()));
         assert_eq!(ways.collect::<BTreeSet<_>>().len(), 9);
+    }
+
+    /// All questions about reserved names, asked of a library that is never right.
+    fn met(root: Root) -> Met {
+        let mut met = Met::none(root);
+        for question in reserved::questions(root) {
+            met.count(&question, &crate::ask::check(|_| -1, &question));
+        }
+        met
+    }
+
+    #[test]
+    fn reserved_names_are_met_everywhere_and_must_be() {
+        for root in crate::ROOTS {
+            let full = met(root);
+            assert!([&full.reserved, &full.declared].map(|counts| missing("", counts)) == [0; 2]);
+            // No pair beyond those that are asked for.
+            assert!(full.reserved.keys().copied().eq(reserved::using_pairs(root)));
+            assert!(full.declared.keys().copied().eq(reserved::declaring_pairs(root)));
+            let is_enough = |reserved: &[u64], declared: &[u64]| {
+                let counts = |counts: &[u64]| (0..).zip(counts.iter().copied()).map(|(at, n)| ((at, 0), n)).collect();
+                let (pairs, settings) = (BTreeMap::new(), BTreeMap::new());
+                Met { pairs, settings, reserved: counts(reserved), declared: counts(declared) }.print(false)
+            };
+            assert!(is_enough(&[1, 1], &[1, 1]));
+            assert!(!is_enough(&[1, 0], &[1, 1]) && !is_enough(&[1, 1], &[0, 1]));
+        }
     }
 
     #[test]

@@ -14,7 +14,7 @@ use oracle::read::Tree;
 use oracle::record::SIZE;
 use oracle::refusal::Refusal;
 use oracle::tree::{many, var};
-use oracle::{print, read, settings, words};
+use oracle::{grow, print, read, settings, words};
 use std::hint::black_box;
 use std::time::{Duration, Instant};
 
@@ -250,8 +250,9 @@ fn names(seed: u64, before: Option<Loaded>) -> Result<(), Refusal> {
     Ok(())
 }
 
-/// Names of each length of 1 to 12, of all these lengths, longer ones, a shader's, names that nearly are fixed words, and names
-/// like those of opaque types. What is a name now was one before request #102 too, so another build takes all of them.
+/// Names of each length of 1 to 12, of all these lengths, longer ones, a shader's, names that nearly are fixed words, names like
+/// those of opaque types, reserved names and names that nearly are. What is a name now was one before request #102 too, and
+/// variables may have reserved names, so another build takes all of them.
 fn names_by_sort(seed: u64) -> Vec<(String, Vec<Vec<u8>>)> {
     let mut random = Random::new(seed, 0);
     let mut of_length = |least, most| (0..NAMES).map(|_| name(&mut random, least, most)).collect();
@@ -263,8 +264,14 @@ fn names_by_sort(seed: u64) -> Vec<(String, Vec<Vec<u8>>)> {
     // Every second one: all are longer than the names of a tree can be.
     names.push(("near words".to_owned(), are_names(limits::near_words()).step_by(2).collect()));
     names.push(("near the first 94".to_owned(), are_names(limits::near_first_words()).collect()));
-    let like_opaque = limits::LIKE_OPAQUE_TYPES.map(|word| word.as_bytes().to_vec());
-    names.push(("like opaque types".to_owned(), like_opaque.to_vec()));
+    let listed: [(&str, &[&str]); 3] = [
+        ("like opaque types", &limits::LIKE_OPAQUE_TYPES),
+        ("reserved", &grow::RESERVED_NAMES),
+        ("nearly reserved", &grow::NEARLY_RESERVED),
+    ];
+    names.extend(
+        listed.map(|(sort, words)| (sort.to_owned(), words.iter().map(|word| word.as_bytes().to_vec()).collect())),
+    );
     names
 }
 

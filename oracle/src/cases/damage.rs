@@ -1,6 +1,7 @@
 //! Damaged copies of a question: one damage in every place, or several at random.
 
 use crate::answer::{Question, Root};
+use crate::grow::RESERVED_NAMES;
 use crate::random::Random;
 use crate::record::{shape, Payload, Record, SIZE};
 use crate::words;
@@ -131,17 +132,18 @@ pub fn settings(base: &Question) -> impl Iterator<Item = Question> + '_ {
 
 /// Each text of the tree becomes each of the texts, which is put behind the names.
 pub fn texts<'a>(base: &'a Question, texts: &'a [Vec<u8>]) -> impl Iterator<Item = Question> + 'a {
-    let records = base.records.as_chunks::<SIZE>().0;
-    records.iter().map(Record::from_bytes).enumerate().filter(|(_, record)| has_text(record)).flat_map(
-        move |(at, record)| {
-            texts.iter().filter_map(move |text| {
-                let (a, b) = (u32::try_from(base.names.len()).ok()?, u32::try_from(text.len()).ok()?);
-                let mut question = with_record(base, at, Record { a, b, ..record });
-                question.names.extend(text);
-                Some(question)
-            })
-        },
-    )
+    let records = base.records.as_chunks::<SIZE>().0.iter().map(Record::from_bytes).enumerate();
+    let with_texts = records.filter(|(_, record)| has_text(record));
+    with_texts.flat_map(move |(at, _)| texts.iter().filter_map(move |text| with_text(base, at, text)))
+}
+
+/// The question with this text for the record in this place, put behind the names. (Nothing where it would lie beyond 32 bits.)
+fn with_text(base: &Question, at: usize, text: &[u8]) -> Option<Question> {
+    let (a, b) = (u32::try_from(base.names.len()).ok()?, u32::try_from(text.len()).ok()?);
+    let record = Record::from_bytes(base.records.as_chunks::<SIZE>().0.get(at)?);
+    let mut question = with_record(base, at, Record { a, b, ..record });
+    question.names.extend(text);
+    Some(question)
 }
 
 /// Whether the record has a text.
@@ -165,7 +167,7 @@ pub fn once(base: &Question, random: &mut Random) -> Question {
     let start = SIZE * random.between(0, last);
     let end = start + SIZE;
     let Question { records, names, .. } = &mut question;
-    match random.byte(11) {
+    match random.byte(12) {
         0 => records[start] = random.byte(81),
         1 => records[start] = random.byte(255),
         2 => records[start + 1] = random.byte(119),
@@ -182,7 +184,9 @@ pub fn once(base: &Question, random: &mut Random) -> Question {
             }
         }
         10 => names.truncate(random.between(0, names.len())),
-        _ => damage_text(names, random),
+        11 => damage_text(names, random),
+        // A reserved name, whatever the record holds: another name, a number or nothing.
+        _ => return with_text(base, start / SIZE, random.one_of(&RESERVED_NAMES).as_bytes()).unwrap_or(question),
     }
     question
 }
@@ -194,9 +198,9 @@ fn damage_text(names: &mut [u8], random: &mut Random) {
     };
     let at = random.between(0, last);
     if random.chance(50) {
-        names[at] = BYTES[random.between(0, BYTES.len() - 1)];
+        names[at] = random.one_of(&BYTES);
     } else {
-        let word = words::OTHER_WORDS[random.between(0, words::OTHER_WORDS.len() - 1)].as_bytes();
+        let word = random.one_of(&words::OTHER_WORDS).as_bytes();
         for (byte, letter) in names[at..].iter_mut().zip(word) {
             *byte = *letter;
         }

@@ -8,6 +8,7 @@ use crate::random::Random;
 use crate::read::{DEEPEST, MOST_NAMES};
 use crate::record::{Record, SIZE};
 use crate::tree::{all, many, var};
+use crate::words::{self, Judgement};
 
 /// Why a number fits its field.
 const SMALL: &str = "a tree has at most 4,096 records and 32,768 bytes of names";
@@ -156,6 +157,7 @@ type Pool = Vec<(u32, u32)>;
 struct Shader {
     whole: Whole,
     variables: Pool,
+    parameters: Pool,
     functions: Pool,
     fields: Pool,
     floats: Pool,
@@ -203,7 +205,10 @@ impl Shader {
         let names = &mut whole.names;
         let [variables, functions, fields, floats] =
             [&VARIABLES[..], &FUNCTIONS, &FIELDS, &FLOATS].map(|words| pool(names, words));
-        Self { whole, variables, functions, fields, floats }
+        let ordinary = VARIABLES.map(|word| words::judge(word.as_bytes()) == Judgement::Ordinary);
+        let parameters =
+            variables.iter().zip(ordinary).filter(|(_, ordinary)| *ordinary).map(|(name, _)| *name).collect();
+        Self { whole, variables, parameters, functions, fields, floats }
     }
 
     fn fill_unit(&mut self, size: usize) {
@@ -252,13 +257,15 @@ impl Shader {
         self.whole.records.extend(Record { kind, variant, count, a, b }.to_bytes());
     }
 
-    fn one_of(random: &mut Random, pool: &Pool) -> (u32, u32) {
-        pool[random.between(0, pool.len() - 1)]
+    fn put_variable(&mut self, kind: u8, variant: u8) {
+        let name = self.whole.random.one_of(&self.variables);
+        self.put_text(kind, variant, 0, name);
     }
 
-    fn put_variable(&mut self, kind: u8, variant: u8) {
-        let name = Self::one_of(&mut self.whole.random, &self.variables);
-        self.put_text(kind, variant, 0, name);
+    /// A parameter's name: that of a variable, but no reserved one (02, #105).
+    fn put_parameter(&mut self) {
+        let name = self.whole.random.one_of(&self.parameters);
+        self.put_text(27, 0, 0, name);
     }
 
     /// A keyword type: float and the vectors, mostly.
@@ -285,14 +292,14 @@ impl Shader {
         self.whole.children += 1;
         let parameters = self.whole.random.between(0, 3);
         self.put(81, 0, 0);
-        let name = Self::one_of(&mut self.whole.random, &self.functions);
+        let name = self.whole.random.one_of(&self.functions);
         self.put_text(40, 0, parameters, name);
         self.put(31, 0, 0);
         self.keyword();
         for _ in 0..parameters {
             self.put(41, 1, 0);
             self.keyword();
-            self.put_variable(27, 0);
+            self.put_parameter();
         }
         let statements = self.whole.random.between(4, 10);
         self.block(statements, 2);
@@ -356,7 +363,7 @@ impl Shader {
     /// A variable, or a field of one.
     fn place(&mut self) {
         if self.whole.random.chance(40) {
-            let name = Self::one_of(&mut self.whole.random, &self.fields);
+            let name = self.whole.random.one_of(&self.fields);
             self.put_text(13, 0, 0, name);
         }
         self.put_variable(1, 0);
@@ -374,7 +381,7 @@ impl Shader {
         ]);
         match sort {
             Some(1) => {
-                let text = Self::one_of(&mut self.whole.random, &self.floats);
+                let text = self.whole.random.one_of(&self.floats);
                 self.put_text(5, 0, 0, text);
             }
             Some(2) => {
@@ -393,7 +400,7 @@ impl Shader {
                 if self.whole.random.chance(30) {
                     self.keyword();
                 } else {
-                    let name = Self::one_of(&mut self.whole.random, &self.functions);
+                    let name = self.whole.random.one_of(&self.functions);
                     self.put_text(1, 0, 0, name);
                 }
                 for _ in 0..arguments {
@@ -422,7 +429,7 @@ pub fn atoms(seed: u64, texts: &[Vec<u8>]) -> [Question; 2] {
     let mut whole = Whole::new(Root::Expr, seed);
     let places: Pool = texts.iter().map(|text| put(&mut whole.names, text)).collect();
     let variables = whole.call(|random| {
-        let (a, b) = Shader::one_of(random, &places);
+        let (a, b) = random.one_of(&places);
         Record { kind: 1, a, b, ..Record::default() }
     });
     let bools = whole.call(|random| Record { kind: 4, variant: random.byte(1), ..Record::default() });

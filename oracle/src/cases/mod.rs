@@ -1,5 +1,6 @@
 //! Questions on which a printer is compared with the oracle: whole trees and damaged ones, short inputs, inputs at document
-//! 01's limits, all small expressions, and expressions in which signs meet. [`large`] makes the trees on which times are taken.
+//! 01's limits, reserved names at every place, all small expressions, and expressions in which signs meet. [`large`] makes the
+//! trees on which times are taken.
 //!
 //! Most are iterators that make a question when it is asked for; what is random goes by seed, so that it can be had again.
 
@@ -7,6 +8,7 @@ pub mod cover;
 pub mod damage;
 pub mod large;
 pub mod limits;
+pub mod reserved;
 pub mod short;
 pub mod signs;
 pub mod small;

@@ -142,7 +142,7 @@ pub fn two_in_places() -> impl Iterator<Item = Question> {
 }
 
 /// Whether the records are a tree or the beginning of one.
-fn is_good_so_far(question: &Question) -> bool {
+pub(super) fn is_good_so_far(question: &Question) -> bool {
     read::refusal(question).is_none_or(|refusal| refusal.reason == Reason::NoneLeft)
 }
 

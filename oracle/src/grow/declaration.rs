@@ -58,7 +58,7 @@ impl Grower {
     /// A prototype: kind 40, at least 4 records.
     fn prototype(&mut self, room: usize) {
         let parameters = self.children(0, 3, room.saturating_sub(4), 3);
-        self.put_named(40, 0, parameters);
+        self.put_declared(40, 0, parameters);
         let shares = self.random.share(room - 1, &[3, 3 * parameters]);
         let (ty, rest) = if parameters > 0 { (shares[0], shares[1]) } else { (room - 1, 0) };
         self.full_type(ty);
@@ -75,7 +75,7 @@ impl Grower {
         let last = shares[qualified];
         self.type_specifier(last.saturating_sub(named).max(2));
         let size = if last > 5 { self.random.between(1, 4) } else { 1 };
-        self.optional(named > 0, size, Self::arrayed_identifier);
+        self.optional(named > 0, size, Self::parameter_name);
     }
 
     /// A declarator list: kind 42, at least 5 records.

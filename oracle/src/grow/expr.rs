@@ -112,7 +112,7 @@ impl Grower {
         const ENDS: [u32; 8] =
             [0, 1, 9, 10, i32::MAX.cast_unsigned(), i32::MIN.cast_unsigned(), u32::MAX - 1, u32::MAX];
         if self.random.chance(40) {
-            ENDS[self.random.between(0, ENDS.len() - 1)]
+            self.random.one_of(&ENDS)
         } else {
             self.random.bits32() >> self.random.byte(31)
         }

@@ -13,6 +13,8 @@ use crate::answer::{Question, Root};
 use crate::random::Random;
 use crate::record::Record;
 use crate::settings;
+use text::Names;
+pub use text::{NEARLY_RESERVED, RESERVED_NAMES};
 
 /// Why a number fits its field.
 const SMALL: &str = "a grown tree is small";
@@ -67,10 +69,20 @@ impl Grower {
         self.write(Record { kind, variant, count, ..Record::default() });
     }
 
-    /// Writes a record with a name.
+    /// Writes a record with a name, reserved or not.
     fn put_named(&mut self, kind: u8, variant: u8, children: usize) {
+        let name = self.name(Names::Any);
+        self.put_text(kind, variant, children, name);
+    }
+
+    /// Writes a record that declares its name, which is not reserved then (02, #105).
+    fn put_declared(&mut self, kind: u8, variant: u8, children: usize) {
+        let name = self.name(Names::Ordinary);
+        self.put_text(kind, variant, children, name);
+    }
+
+    fn put_text(&mut self, kind: u8, variant: u8, children: usize, (a, b): (u32, u32)) {
         let count = u16::try_from(children).expect(SMALL);
-        let (a, b) = self.name();
         self.write(Record { kind, variant, count, a, b });
     }
 

@@ -32,7 +32,7 @@ impl Grower {
     fn structure(&mut self, room: usize) {
         let fields = self.children(0, 3, room, 4);
         if self.random.chance(60) {
-            self.put_named(23, 1, fields);
+            self.put_declared(23, 1, fields);
         } else {
             self.put(23, 0, fields);
         }
@@ -75,10 +75,19 @@ impl Grower {
         }
     }
 
-    /// An identifier, arrayed where the room allows: kind 27.
+    /// The name of a field, of a next declarator or of a block, arrayed where the room allows: kind 27.
     pub(super) fn arrayed_identifier(&mut self, room: usize) {
+        self.maybe_arrayed(room, Self::put_named);
+    }
+
+    /// A parameter's name, which is declared, arrayed where the room allows: kind 27.
+    pub(super) fn parameter_name(&mut self, room: usize) {
+        self.maybe_arrayed(room, Self::put_declared);
+    }
+
+    fn maybe_arrayed(&mut self, room: usize, put: fn(&mut Self, u8, u8, usize)) {
         let arrayed = room >= 3;
-        self.put_named(27, u8::from(arrayed), 0);
+        put(self, 27, u8::from(arrayed), 0);
         self.optional(arrayed, room.saturating_sub(1), Self::array);
     }
 

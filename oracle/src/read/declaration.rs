@@ -41,9 +41,9 @@ impl Reader<'_> {
         Ok(declaration.into())
     }
 
-    /// A prototype: kind 40.
+    /// A prototype, which declares its name: kind 40.
     fn prototype(&mut self) -> Read<ast::FunctionPrototype> {
-        self.node(&Place::of(&[40..=40]), |reader, r| {
+        self.node(&Place::of(&[40..=40]).declaring(40), |reader, r| {
             let ty = reader.full_type()?;
             let parameters = reader.several(r.record.count, Self::parameter)?;
             Ok(FunctionPrototypeData { ty, name: r.identifier(), parameters }.into())
@@ -55,7 +55,7 @@ impl Reader<'_> {
         self.node(&Place::of(&[41..=41]), |reader, r| {
             let qualifier = reader.when(r.has(2), Self::qualifier)?;
             let ty = reader.type_specifier()?;
-            let parameter = match reader.when(r.has(1), Self::arrayed_identifier)? {
+            let parameter = match reader.when(r.has(1), Self::parameter_name)? {
                 Some(ident) => {
                     let declarator = FunctionParameterDeclaratorData { ty, ident };
                     FunctionParameterDeclarationData::Named(qualifier, declarator.into())

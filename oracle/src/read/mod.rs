@@ -1,7 +1,7 @@
-//! The decoder: records and names to the tree of 001, or the refusal that document 01 gives.
+//! The decoder: records and names to the tree of 001, or the refusal that documents 01 and 02 give.
 //!
-//! A record is opened at the place where it is expected, and opening it decides refusals 4 to 11 in their order. Children
-//! are read behind it, so the first faulty record in preorder decides.
+//! A record is opened at the place where it is expected, and opening it decides refusals 4 to 11 in their order, then 15.
+//! Children are read behind it, so the first faulty record in preorder decides.
 
 mod declaration;
 mod expr;
@@ -11,7 +11,7 @@ mod types;
 use crate::answer::{Question, Root};
 use crate::record::{self, shape, Count, Payload, Record};
 use crate::refusal::{Reason, Refusal};
-use crate::words;
+use crate::words::{self, Judgement};
 use glsl_lang::ast;
 use std::ops::RangeInclusive;
 
@@ -85,16 +85,27 @@ fn whole<'a, T>(records: &'a [u8], names: &'a [u8], read: fn(&mut Reader<'a>) ->
     Ok(Whole { tree, unlike_display: reader.unlike_display })
 }
 
-/// A place in the tree: the kinds and variants that are allowed there.
+/// A place in the tree: the kinds and variants that are allowed there, and which of the kinds declares its name there.
 struct Place {
     kinds: &'static [RangeInclusive<u8>],
     variants: RangeInclusive<u8>,
+    declaring: Option<u8>,
 }
 
 impl Place {
-    /// A place for these kinds in every variant.
+    /// A place for these kinds in every variant, whose names may be reserved.
     const fn of(kinds: &'static [RangeInclusive<u8>]) -> Self {
-        Self { kinds, variants: 0..=255 }
+        Self { kinds, variants: 0..=255, declaring: None }
+    }
+
+    /// The same place, where the name of this kind may not be reserved (02, #105).
+    const fn declaring(self, kind: u8) -> Self {
+        Self { declaring: Some(kind), ..self }
+    }
+
+    /// The same place for these variants alone.
+    const fn in_variants(self, variants: RangeInclusive<u8>) -> Self {
+        Self { variants, ..self }
     }
 }
 
@@ -169,7 +180,7 @@ impl Reader<'_> {
         present.then(|| read(self)).transpose()
     }
 
-    /// Opens the next record: refusals 4 to 11, in this order.
+    /// Opens the next record: refusals 4 to 11 and 15, in this order.
     fn open(&mut self, place: &Place) -> Read<Opened> {
         let index = self.next;
         let refused = |reason| Err(Refusal::at(reason, index));
@@ -194,6 +205,9 @@ impl Reader<'_> {
             return refused(Reason::Unused);
         }
         let text = self.text(&record, payload).map_err(|reason| Refusal::at(reason, index))?;
+        if place.declaring == Some(record.kind) && words::judge(text.as_bytes()) == Judgement::Reserved {
+            return refused(Reason::Declared);
+        }
         self.next += 1;
         Ok(Opened { index, record, text })
     }

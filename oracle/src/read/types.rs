@@ -17,12 +17,12 @@ impl Reader<'_> {
 
     /// The type of a record 20 and its children.
     pub(super) fn type_of(&mut self, r: Opened) -> Read<ast::TypeSpecifier> {
-        let ty = self.node(&Place::of(&[21..=23]), Self::non_array_of)?;
+        let ty = self.node(&Place::of(&[21..=23]).declaring(23), Self::non_array_of)?;
         let array_specifier = self.when(r.has(1), Self::array)?;
         Ok(TypeSpecifierData { ty, array_specifier }.into())
     }
 
-    /// A type keyword, a type name or a struct: kinds 21..23.
+    /// A type keyword, a type name or a struct, which declares its name: kinds 21..23.
     fn non_array_of(&mut self, r: Opened) -> Read<ast::TypeSpecifierNonArray> {
         let ty = match r.kind() {
             21 => r.entry(&tables::TYPE_KEYWORDS, 0)?,
@@ -69,12 +69,20 @@ impl Reader<'_> {
         })
     }
 
-    /// An identifier, arrayed or not: kind 27.
+    /// The name of a field, of a next declarator or of a block: kind 27.
     pub(super) fn arrayed_identifier(&mut self) -> Read<ast::ArrayedIdentifier> {
-        self.node(&Place::of(&[27..=27]), |reader, r| {
-            let array_spec = reader.when(r.has(1), Self::array)?;
-            Ok(ArrayedIdentifierData { ident: r.identifier(), array_spec }.into())
-        })
+        self.node(&Place::of(&[27..=27]), Self::arrayed_identifier_of)
+    }
+
+    /// A parameter's name: kind 27, which declares it.
+    pub(super) fn parameter_name(&mut self) -> Read<ast::ArrayedIdentifier> {
+        self.node(&Place::of(&[27..=27]).declaring(27), Self::arrayed_identifier_of)
+    }
+
+    /// The identifier of a record 27, arrayed or not.
+    fn arrayed_identifier_of(&mut self, r: Opened) -> Read<ast::ArrayedIdentifier> {
+        let array_spec = self.when(r.has(1), Self::array)?;
+        Ok(ArrayedIdentifierData { ident: r.identifier(), array_spec }.into())
     }
 
     /// A qualifier: kind 28.
@@ -110,7 +118,8 @@ impl Reader<'_> {
 
     /// The precision that a precision declaration takes: kind 29 of variant 19..21.
     pub(super) fn precision(&mut self) -> Read<ast::PrecisionQualifier> {
-        self.node(&Place { kinds: &[29..=29], variants: 19..=21 }, |_, r| Ok(r.entry(&tables::PRECISION, 19)?.into()))
+        let place = Place::of(&[29..=29]).in_variants(19..=21);
+        self.node(&place, |_, r| Ok(r.entry(&tables::PRECISION, 19)?.into()))
     }
 
     /// A layout id: kind 30.

@@ -171,7 +171,7 @@ pub fn print_expr_growing<'room>(
 ///
 /// # Errors
 ///
-/// A refusal with a number of 2 to 12.
+/// A refusal with a number of 2 to 12, or 15.
 pub fn joined(records: &[u8], names: &[u8]) -> Result<bool, Refused> {
     refusal::value(calls::joined(records, names)).map(|value| value == 1)
 }

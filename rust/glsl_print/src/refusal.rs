@@ -3,9 +3,11 @@
 use std::error::Error;
 use std::fmt;
 
-/// Why there is no answer. The numbers are document 01's, and so is their order: the first one that holds is given, where of 4 to
-/// 11 the first faulty record decides.
+/// Why there is no answer: the first refusal in this order: 1, 2, 3; at each record 4 to 11 and then 15, so that the first faulty
+/// record decides; 12; 13. The numbers are those of documents 01 and 02, and more will come. `Ord` goes by number, which is not quite that
+/// order.
 #[derive(Clone, Copy, Debug, PartialEq, Eq, PartialOrd, Ord, Hash)]
+#[non_exhaustive]
 pub enum Refusal {
     /// Settings neither 21 nor 22 bytes, or a byte out of range. The place is 0.
     SettingsOutOfRange = 1,
@@ -33,11 +35,14 @@ pub enum Refusal {
     RecordsLeftOver = 12,
     /// The text is longer than the room. The place is the length needed.
     RoomTooSmall = 13,
+    /// A name that GLSL keeps for itself (it begins with `gl_`) is declared, as a function's, a struct's or a parameter's. The place
+    /// is the record.
+    ReservedDeclared = 15,
 }
 
 impl Refusal {
-    /// All of them, by number.
-    pub const ALL: [Self; 13] = [
+    /// All of them, by number. The numbers have gaps.
+    pub const ALL: &'static [Self] = &[
         Self::SettingsOutOfRange,
         Self::RecordsOutOfSize,
         Self::NamesOutOfSize,
@@ -51,9 +56,10 @@ impl Refusal {
         Self::TextMisformed,
         Self::RecordsLeftOver,
         Self::RoomTooSmall,
+        Self::ReservedDeclared,
     ];
 
-    /// Document 01's number, 1 to 13.
+    /// The documents' number.
     pub const fn number(self) -> u8 {
         self as u8
     }
@@ -75,6 +81,7 @@ impl fmt::Display for Refusal {
             Self::TextMisformed => "a text has the wrong form",
             Self::RecordsLeftOver => "records left over",
             Self::RoomTooSmall => "the text is longer than the room",
+            Self::ReservedDeclared => "a reserved name (gl_..) declared",
         })
     }
 }
@@ -109,8 +116,8 @@ pub(crate) fn value(answer: i64) -> Result<usize, Refused> {
         assert!(number == 0, "{answer} is no length: a text has less than 2^32 bytes");
         return Ok(place);
     }
-    let refusal = number.checked_sub(1).and_then(|index| Refusal::ALL.get(index));
-    let refusal = *refusal.unwrap_or_else(|| panic!("{answer} is no refusal: there are 13"));
+    let refusal = Refusal::ALL.iter().find(|refusal| usize::from(refusal.number()) == number);
+    let refusal = *refusal.unwrap_or_else(|| panic!("{answer} is no refusal: none has the number {number}"));
     Err(Refused { refusal, place })
 }
 
@@ -120,13 +127,14 @@ mod tests {
 
     #[test]
     fn numbers_are_in_order() {
-        assert_eq!(Refusal::ALL.map(Refusal::number), [1, 2, 3, 4, 5, 6, 7, 8, 9, 10, 11, 12, 13]);
+        let numbers: Vec<u8> = Refusal::ALL.iter().map(|refusal| refusal.number()).collect();
+        assert_eq!(numbers, [1, 2, 3, 4, 5, 6, 7, 8, 9, 10, 11, 12, 13, 15]);
     }
 
     #[test]
     fn bits_are_taken_apart() {
         assert_eq!([0, 1, 4_294_967_295].map(value), [0, 1, 4_294_967_295].map(Ok));
-        for refusal in Refusal::ALL {
+        for &refusal in Refusal::ALL {
             for place in [0, 7, 4_294_967_295] {
                 let bits = -((i64::from(refusal.number()) << 32) + place as i64);
                 assert_eq!(value(bits), Err(Refused { refusal, place }));
@@ -136,7 +144,7 @@ mod tests {
 
     #[test]
     fn other_bits_are_no_answer() {
-        for bits in [1 << 32, i64::MAX, -1, -(14 << 32), i64::MIN] {
+        for bits in [1 << 32, i64::MAX, -1, -(14 << 32), -(16 << 32), i64::MIN] {
             assert!(std::panic::catch_unwind(|| value(bits)).is_err(), "{bits}");
         }
     }

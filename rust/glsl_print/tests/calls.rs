@@ -274,6 +274,88 @@ fn bad_records_are_refused_where_they_stand() {
     bad(&[a, a], Refusal::RecordsLeftOver, 1);
 }
 
+/// The names of the trees of request #105: `gl_x` at 0, in which `gl_` and `gl` begin too, and `x` at 3. Five bytes are no name.
+const WITH_RESERVED: &[u8] = b"gl_x-";
+
+/// A record with the text that begins at 0 and has so many bytes.
+fn front(kind: u8, variant: u8, length: u32) -> Record {
+    record(kind, variant, 0, 0, length)
+}
+
+/// Units that declare the name of so many bytes, as a function's in a prototype and in a definition, as a parameter's and as a
+/// struct's; each with the place of its record and the text in TIGHT, where NAME stands for it.
+fn declaring(length: u32) -> [(Vec<Record>, usize, &'static str); 4] {
+    let [full, bare, void] = [plain(31, 0), plain(20, 0), plain(21, 0)];
+    let [unit, x] = [record(80, 0, 1, 0, 0), record(40, 0, 1, 3, 1)];
+    let parameter = [plain(41, 1), bare, plain(21, 2), front(27, 0, length)];
+    [
+        (vec![unit, plain(47, 0), front(40, 0, length), full, bare, void], 2, "void NAME();"),
+        (vec![unit, plain(81, 0), front(40, 0, length), full, bare, void, plain(60, 0)], 2, "void NAME(){}"),
+        ([&[unit, plain(47, 0), x, full, bare, void][..], &parameter].concat(), 9, "void x(int NAME);"),
+        (vec![unit, plain(47, 1), plain(42, 0), plain(43, 0), full, bare, front(23, 1, length)], 6, "struct NAME{};"),
+    ]
+}
+
+/// A unit is refused so, whatever is left over behind it and however small the room is.
+fn unit_refused(unit: &[Record], names: &[u8], refusal: Refusal, place: usize) {
+    let refused = Refused { refusal, place };
+    for records in [unit.concat(), [unit, &[plain(80, 0)]].concat().concat()] {
+        for length in [64, 0] {
+            let mut room = [BLANK; 64];
+            assert_eq!(print_unit(&OPEN, &records, names, &mut room[..length]), Err(refused));
+            assert_eq!(room, [BLANK; 64], "{refused}");
+        }
+    }
+}
+
+#[test]
+fn reserved_names_are_refused_where_they_are_declared() {
+    for length in [3, 4] {
+        for (unit, place, _) in declaring(length) {
+            unit_refused(&unit, WITH_RESERVED, Refusal::ReservedDeclared, place);
+        }
+        let call = [plain(12, 0), plain(20, 0), front(23, 1, length)].concat();
+        refused(&OPEN, &call, WITH_RESERVED, Refusal::ReservedDeclared, 2);
+    }
+}
+
+/// Before 15 come 10 and 11. A name that does not begin with `gl_` can be declared, and case counts.
+#[test]
+fn other_names_are_judged_as_before_where_they_are_declared() {
+    for (length, refusal) in [(6, Refusal::TextBeyond), (5, Refusal::TextMisformed)] {
+        for (unit, place, _) in declaring(length) {
+            unit_refused(&unit, WITH_RESERVED, refusal, place);
+        }
+    }
+    for (length, names, name) in [(2, WITH_RESERVED, "gl"), (4, b"GL_x", "GL_x"), (4, b"glxx", "glxx")] {
+        for (unit, _, text) in declaring(length) {
+            let printed = print_unit_growing(&TIGHT, &unit.concat(), names, &mut Vec::new()).map(str::to_owned);
+            assert_eq!(printed, Ok(text.replace("NAME", name)));
+        }
+    }
+}
+
+/// Every other record may have a reserved name.
+#[test]
+fn reserved_names_are_printed_where_they_are_used() {
+    let name = |kind, variant| front(kind, variant, 4);
+    let [full, bare, int] = [plain(31, 0), plain(20, 0), plain(21, 2)];
+    let field = [record(26, 0, 1, 0, 0), bare, name(22, 0), name(27, 0)];
+    let layout = [record(28, 0, 1, 0, 0), record(29, 18, 1, 0, 0), name(30, 0)];
+    let block = [&[plain(47, 3), record(46, 1, 1, 0, 4)], &layout[..], &field, &[name(27, 0)]].concat();
+    let variables = [plain(47, 1), record(42, 0, 1, 0, 0), name(43, 1), full, bare, int, plain(44, 0), name(27, 0)];
+    let condition = [name(69, 1), full, bare, plain(21, 1), plain(45, 0), name(13, 0), name(1, 0)];
+    let head = [plain(81, 0), record(40, 0, 0, 3, 1), full, bare, plain(21, 0), record(60, 0, 1, 0, 0), plain(65, 0)];
+    let function = [&head[..], &condition, &[plain(68, 1)]].concat();
+    let unit = [&[record(80, 0, 4, 0, 0), name(47, 4)][..], &block, &variables, &function].concat().concat();
+    let text =
+        "invariant gl_x;layout(gl_x) gl_x{gl_x gl_x;}gl_x;int gl_x,gl_x;void x(){while(bool gl_x=gl_x.gl_x)break;}";
+    assert_eq!(print_unit_growing(&TIGHT, &unit, WITH_RESERVED, &mut Vec::new()), Ok(text));
+    let call = [plain(12, 0), bare, name(22, 0)].concat();
+    assert_eq!(print_expr(&TIGHT, &call, WITH_RESERVED, &mut [BLANK; 64]), Ok("gl_x()"));
+    assert_eq!(joined(&call, WITH_RESERVED), Ok(false));
+}
+
 /// Runs a call in a thread with the stack that a caller is asked for.
 fn on_the_stack_asked_for<T: Send + 'static>(call: impl FnOnce() -> T + Send + 'static) -> T {
     let thread = std::thread::Builder::new().stack_size(192 << 10).spawn(call).expect("a thread");

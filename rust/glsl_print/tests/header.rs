@@ -1,8 +1,10 @@
-//! The header for C says what this crate says: the same refusals by name, number and meaning, and the same settings.
+//! The header for C says what this crate says: the same refusals by name, number and meaning, which are the printer's own, and
+//! the same settings.
 
 use glsl_print::{Refusal, EXPORT, OPEN, TIGHT};
 
 const HEADER: &str = include_str!("../../../include/glsl_print.h");
+const REFUSALS: &str = include_str!("../../../crates/accept/specs/Refusal.antt");
 
 /// The header's name of a refusal: `RoomTooSmall` is GLSL_ROOM_TOO_SMALL.
 fn name_in_c(refusal: Refusal) -> String {
@@ -16,10 +18,19 @@ fn refusals_are_the_same() {
     let lines: Vec<&str> =
         HEADER.lines().filter(|line| line.trim_start().starts_with("GLSL_") && line.contains(" = ")).collect();
     assert_eq!(lines.len(), 1 + Refusal::ALL.len(), "none, and each");
-    for refusal in Refusal::ALL {
-        let line = lines[usize::from(refusal.number())];
-        assert!(line.contains(&format!("{} = {}", name_in_c(refusal), refusal.number())), "{line}");
+    for (line, &refusal) in lines[1..].iter().zip(Refusal::ALL) {
+        let said = line.trim_start().split([',', ' ', '/']).take(3).collect::<Vec<_>>().join(" ");
+        assert_eq!(said, format!("{} = {}", name_in_c(refusal), refusal.number()));
         assert!(line.contains(&format!("/* {refusal}")), "{line}");
+    }
+}
+
+#[test]
+fn refusals_are_those_of_the_printer() {
+    let lines: Vec<&str> = REFUSALS.lines().filter(|line| line.starts_with("number Why.")).collect();
+    assert_eq!(lines.len(), Refusal::ALL.len());
+    for line in Refusal::ALL.iter().map(|refusal| format!("number Why.{refusal:?} = {}", refusal.number())) {
+        assert!(lines.contains(&line.as_str()), "{line}");
     }
 }
 

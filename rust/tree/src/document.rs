@@ -2,6 +2,7 @@
 //! by. Each is a block between two comments of the document.
 
 use crate::explain::REFUSALS;
+use crate::ranges::ranges;
 use crate::table::{Class, Form, Holds, Part, FORMS};
 use crate::words::{fixed_words, symbols_of, words_of};
 use crate::write::{tree_of, Node};
@@ -29,6 +30,9 @@ const PRINTED: &[(u8, u8, &str)] = &[
     (68, 3, "`return;` or `return $1;`"), (69, 0, "$1"), (69, 1, "$1 NAME = $2"), (70, 0, "`;` or `$1;`"),
     (70, 2, "$1"), (80, 0, "$1 .."), (81, 0, "$1 $2"),
 ];
+
+/// What stands behind a name, or a node with one, where it is declared.
+const DECLARED: &str = ", declared";
 
 /// The most bytes of a row of fixed words.
 const WIDEST_ROW: usize = 112;
@@ -124,15 +128,7 @@ fn row(form: &Form) -> [String; 7] {
         (true, false) => "n",
         (true, true) => "n ≥ 1",
     };
-    [
-        form.kind.to_string(),
-        variants(form),
-        form.label.into(),
-        count.into(),
-        held(form.holds),
-        children(form),
-        printed(form),
-    ]
+    [form.kind.to_string(), variants(form), form.label.into(), count.into(), held(form), children(form), printed(form)]
 }
 
 /// The variants of a form: a range where they mean words, else the least and what is added to it.
@@ -147,15 +143,16 @@ fn variants(form: &Form) -> String {
     flags.iter().fold(form.variant.to_string(), |text, flag| format!("{text}, +{flag}"))
 }
 
-fn held(holds: Holds) -> String {
-    match holds {
+fn held(form: &Form) -> String {
+    let held = match form.holds {
         Holds::Nothing => String::new(),
         Holds::Signed => "a: 32 bits, signed".into(),
         Holds::Unsigned => "a: 32 bits".into(),
         Holds::Name => "name".into(),
         Holds::PerhapsName(flag) => format!("name if +{flag}"),
         Holds::Float => "text of a float".into(),
-    }
+    };
+    held + if form.declares { DECLARED } else { "" }
 }
 
 /// The children of a form, by number.
@@ -192,6 +189,7 @@ fn called(class: Class) -> String {
         Class::Only(29) => "qualifier word (29)".into(),
         Class::Only(47) => "Declaration (47)".into(),
         Class::Only(kind) => format!("{} ({kind})", class.called()),
+        Class::Declaring(kind) => called(Class::Only(kind)) + DECLARED,
         Class::Callee => "callee".into(),
         Class::Expression => "expression".into(),
         Class::Base => "base type".into(),
@@ -218,15 +216,7 @@ fn places() -> String {
 
 /// The kinds that may stand at a place, as ranges.
 fn kinds_at(class: Class) -> String {
-    let mut ranges: Vec<(u8, u8)> = Vec::new();
-    for kind in (0..=u8::MAX).filter(|kind| class.takes_kind(*kind)) {
-        match ranges.last_mut() {
-            Some((_, last)) if *last + 1 == kind => *last = kind,
-            _ => ranges.push((kind, kind)),
-        }
-    }
-    let range = |(first, last): (u8, u8)| if first == last { first.to_string() } else { format!("{first} to {last}") };
-    let kinds = ranges.into_iter().map(range).collect::<Vec<_>>().join(", ");
+    let kinds = ranges((0..=u8::MAX).filter(|kind| class.takes_kind(*kind)).map(usize::from));
     match class {
         Class::Precision => format!("{kinds} of variant 19 to 21, else refusal 7"),
         Class::Root => {
@@ -266,10 +256,9 @@ fn tens(words: &[String]) -> String {
 }
 
 fn refusals() -> String {
-    let row = |(index, (meaning, place)): (usize, &(&str, &str))| {
-        vec![(index + 1).to_string(), (*meaning).into(), (*place).into()]
-    };
-    table(&["no.", "when", "place"], REFUSALS.iter().enumerate().map(row))
+    let row =
+        |(number, meaning, place): &(usize, &str, &str)| vec![number.to_string(), (*meaning).into(), (*place).into()];
+    table(&["no.", "when", "place"], REFUSALS.iter().map(row))
 }
 
 /// The records of a tree, byte by byte.

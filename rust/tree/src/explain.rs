@@ -1,35 +1,43 @@
-//! What a refusal means, and the line that its place points to (document 01, "Calls").
+//! What a refusal means, and the line that its place points to (document 01, "Calls"; document 02, #105).
 
+use crate::ranges::ranges;
 use crate::record::{Record, MOST_NAMES, MOST_RECORDS};
 use crate::table::{form_of, Class, Holds};
 use crate::walk::{walk, Walk, DEEPEST};
-use crate::words::{fixed_words, has_form, words_of};
+use crate::words::{fixed_words, has_form, name_sort, words_of, NameSort, RESERVED};
 use crate::write::{Node, Tree};
 
 /// The room of the program `print`, in bytes.
 const ROOM: usize = 65_536;
 
-/// What each refusal means and what its place is, from number 1 on.
-pub const REFUSALS: [(&str, &str); 13] = [
-    ("the settings are neither 21 nor 22 bytes, or one of these is out of range", "0"),
-    ("there are no records, the bytes are no whole records, or there are more than 4,096", "0"),
-    ("the names have more than 32,768 bytes", "0"),
-    ("a record is expected, and none is left", "the number of records"),
-    ("no node of this kind may stand here", "the record"),
-    ("the node is too deep", "the record"),
-    ("its kind has no such variant", "the record"),
-    ("it counts no children and must have one at least", "the record"),
-    ("a field that its kind does not use (count, a or b) is not 0", "the record"),
-    ("its text ends beyond the names", "the record"),
-    ("its text has the wrong form", "the record"),
-    ("records are left over behind the tree", "the first of them"),
-    ("the text is longer than the room", "the length needed"),
+/// The number of each refusal, what it means and what its place is.
+pub const REFUSALS: &[(usize, &str, &str)] = &[
+    (1, "the settings are neither 21 nor 22 bytes, or one of these is out of range", "0"),
+    (2, "there are no records, the bytes are no whole records, or there are more than 4,096", "0"),
+    (3, "the names have more than 32,768 bytes", "0"),
+    (4, "a record is expected, and none is left", "the number of records"),
+    (5, "no node of this kind may stand here", "the record"),
+    (6, "the node is too deep", "the record"),
+    (7, "its kind has no such variant", "the record"),
+    (8, "it counts no children and must have one at least", "the record"),
+    (9, "a field that its kind does not use (count, a or b) is not 0", "the record"),
+    (10, "its text ends beyond the names", "the record"),
+    (11, "its text has the wrong form", "the record"),
+    (12, "records are left over behind the tree", "the first of them"),
+    (13, "the text is longer than the room", "the length needed"),
+    (15, "it declares a reserved name (gl_..)", "the record"),
 ];
+
+/// What a refusal means; nothing where there is none of that number.
+pub fn meaning(number: usize) -> Option<&'static str> {
+    REFUSALS.iter().find(|(own, ..)| *own == number).map(|(_, meaning, _)| *meaning)
+}
 
 /// The lines that explain a refusal of a tree; or why that tree is not refused so.
 pub fn explain(tree: &Tree, number: usize, place: usize) -> Result<Vec<String>, String> {
-    let Some((meaning, _)) = number.checked_sub(1).and_then(|index| REFUSALS.get(index)) else {
-        return Err(format!("there is no refusal {number}; they have the numbers 1 to {}", REFUSALS.len()));
+    let Some(meaning) = meaning(number) else {
+        let numbers = ranges(REFUSALS.iter().map(|(number, ..)| *number));
+        return Err(format!("there is no refusal {number}; they have the numbers {numbers}"));
     };
     let records: Vec<Record> = tree.nodes.iter().map(|node| node.record).collect();
     let walk = walk(&records, &tree.names);
@@ -69,17 +77,26 @@ fn doubt(tree: &Tree, walk: &Walk, number: usize, place: usize) -> Option<String
     (!possible).then_some(otherwise)
 }
 
-/// The first refusal of a tree's records, with its place: 4 to 12.
+/// The first refusal of a tree's records, with its place: 4 to 12 or 15.
 fn first_refusal(tree: &Tree, walk: &Walk) -> Option<(usize, usize)> {
     let fixed_words = fixed_words();
-    let misformed = |Record { kind, variant, a, b, .. }: Record| {
-        let form = form_of(kind, variant).filter(|form| form.has_text(variant));
-        let text = Record { a, b, ..Record::default() }.text(&tree.names).unwrap_or_default();
-        form.is_some_and(|form| !has_form(text, form.holds, &fixed_words))
-    };
     let fitting = walk.refusal.map_or(walk.places.len(), |(_, place)| place);
-    let first = tree.nodes.iter().take(fitting).position(|node| misformed(node.record));
-    first.map(|place| (11, place)).or(walk.refusal.map(|(number, place)| (usize::from(number), place)))
+    let mut records = tree.nodes.iter().zip(&walk.places).take(fitting).enumerate();
+    let first = records.find_map(|(index, (node, place))| {
+        text_refused(node.record, place.class, &tree.names, &fixed_words).map(|number| (number, index))
+    });
+    first.or(walk.refusal.map(|(number, place)| (usize::from(number), place)))
+}
+
+/// The refusal of a record's text where a class is asked for, if there is one: 11 or 15.
+fn text_refused(record: Record, class: Class, names: &[u8], fixed_words: &[String]) -> Option<usize> {
+    let form = form_of(record.kind, record.variant).filter(|form| form.has_text(record.variant))?;
+    let text = record.text(names).unwrap_or_default();
+    if !has_form(text, form.holds, fixed_words) {
+        return Some(11);
+    }
+    let reserved = form.declares_in(class) && name_sort(text, fixed_words) == NameSort::Reserved;
+    reserved.then_some(15)
 }
 
 /// What is found in the records.
@@ -130,19 +147,16 @@ fn at_node(tree: &Tree, walk: &Walk, number: usize, place: usize) -> Vec<String>
             lines.extend(fixed_word(node.record, &tree.names));
             lines.push(form_of_text(node.record).into());
         }
+        15 => lines.push(reserved_name(node.record, &tree.names)),
         _ => {}
     }
     lines
 }
 
-/// The variants that a kind may have at a place, which are a range.
+/// The variants that a kind may have at a place.
 fn variants(kind: u8, class: Class) -> String {
-    let possible = || (0..=u8::MAX).filter(|variant| form_of(kind, *variant).is_some() && class.takes(kind, *variant));
-    match (possible().min(), possible().max()) {
-        (Some(least), Some(most)) if least < most => format!("{least} to {most}"),
-        (Some(only), _) => only.to_string(),
-        _ => "none".into(),
-    }
+    let possible = |variant: &u8| form_of(kind, *variant).is_some() && class.takes(kind, *variant);
+    ranges((0..=u8::MAX).filter(possible).map(usize::from))
 }
 
 /// The fields that records of a kind and variant use besides these two.
@@ -177,6 +191,15 @@ fn fixed_word(record: Record, names: &[u8]) -> Option<String> {
         )),
         None => place(fixed_words()).map(|_| format!("{word} is a word of GLSL and no name")),
     }
+}
+
+/// Why a record's name can't be declared, and what to do.
+fn reserved_name(record: Record, names: &[u8]) -> String {
+    let name = String::from_utf8_lossy(record.text(names).unwrap_or_default());
+    format!(
+        "{name} begins with {RESERVED}: GLSL keeps such names for itself (4.60, section 3.7). They may be used, but \
+         functions, structs and parameters must have other names"
+    )
 }
 
 /// The form that a record's text must have.
@@ -236,6 +259,117 @@ mod tests {
         assert!(said.contains("\nline 1: FloatConst \"if\"\nthe text of a float has"), "{said}");
     }
 
+    /// Trees that declare a name: a function in a prototype and in a definition, a parameter, and a struct in a declaration
+    /// and in a callee; each with the place of the record, and what it is.
+    const DECLARING: [(&str, usize, &str); 5] = [
+        ("80 0 1\n47\n40 NAME\n31\n20\n21", 2, "40 NAME (Prototype)"),
+        ("80 0 1\n81\n40 NAME\n31\n20\n21\n60", 2, "40 NAME (Prototype)"),
+        ("80 0 1\n47\n40 0 1 \"f\"\n31\n20\n21\n41 1\n20\n21 2\n27 NAME", 9, "27 NAME (Identifier)"),
+        ("80 0 1\n47 1\n42\n43\n31\n20\n23 1 NAME", 6, "23 1 NAME (Struct)"),
+        ("FunCall\n  Type\n    Struct NAME", 2, "Struct NAME"),
+    ];
+
+    #[test]
+    fn a_reserved_name_that_is_declared() {
+        for (tree, place, node) in DECLARING {
+            let said = explained(&tree.replace("NAME", "\"gl_x\""), 15, place);
+            let must_be = format!(
+                "refusal 15: it declares a reserved name (gl_..)\nline {}: {}\n\
+                 gl_x begins with gl_: GLSL keeps such names for itself (4.60, section 3.7). They may be used, but \
+                 functions, structs and parameters must have other names",
+                place + 1,
+                node.replace("NAME", "\"gl_x\"")
+            );
+            assert_eq!(said, must_be);
+        }
+    }
+
+    /// What may be declared is not refused, and what is no name is refused for that.
+    #[test]
+    fn other_names_that_are_declared() {
+        for (tree, place, _) in DECLARING {
+            for (name, found) in [("GL_x", "fit together".into()), ("gl_-", format!("are refused by 11 at {place}"))] {
+                let doubt = explained_or_not(&tree.replace("NAME", &format!("{name:?}")), 15, place);
+                assert_eq!(doubt, Err(format!("this tree is not refused by 15 at {place}: its records {found}")));
+            }
+        }
+    }
+
+    /// All that holds a name and may hold a reserved one.
+    const USING: &str = r#"
+Unit
+  Declaration invariant "gl_x"
+  Declaration block
+    Block "gl_x"
+      Qualifier
+        Layout
+          LayoutId "gl_x"
+      Field
+        Type
+          TypeName "gl_x"
+        Identifier "gl_x"
+      Identifier "gl_x"
+  Function
+    Prototype "f"
+      Full type
+        Type
+          Keyword void
+    Compound
+      Declaration list
+        Declarators
+          First declarator "gl_x"
+            Full type
+              Type
+                Struct "S"
+                  Field
+                    Type
+                      Keyword int
+                    Identifier "gl_x"
+          Next declarator
+            Identifier "gl_x"
+      While
+        Condition assignment "gl_x"
+          Full type
+            Type
+              Keyword bool
+          Initializer
+            Dot "gl_x"
+              Variable "gl_x"
+        Break
+"#;
+
+    #[test]
+    fn reserved_names_that_are_used() {
+        let nodes = tree_of(USING).expect("it is well-formed").nodes;
+        assert_eq!(nodes.iter().filter(|node| node.words.contains("gl_x")).count(), 12);
+        for place in 0..nodes.len() {
+            let doubt = explained_or_not(USING, 15, place);
+            assert_eq!(doubt, Err(format!("this tree is not refused by 15 at {place}: its records fit together")));
+        }
+    }
+
+    /// At a record 15 comes behind 11, which comes behind 10; of two records the first decides; then come records that are
+    /// left over.
+    #[test]
+    fn the_order_of_refusals_of_texts() {
+        for (records, first) in [
+            ("20\n23 1 0 0 5\n1 0 0 0 5", (10, 2)),
+            ("20\n23 1 0 0 4\n1 0 0 0 5", (11, 2)),
+            ("20\n23 1 0 0 3\n1 0 0 0 5", (15, 2)),
+            ("20\n23 1 0 0 3\n1 0 0 0 4", (15, 2)),
+            ("20\n23 1 0 0 3\n80", (15, 2)),
+            ("20\n23 1 0 0 3\n1 0 0 0 1\n80", (15, 2)),
+            ("20\n23 1 0 0 2\n1 0 0 0 4\n80", (11, 3)),
+            ("20\n23 1 0 0 2\n1 0 0 0 3\n80", (12, 4)),
+            ("20\n22 0 0 0 3\n1 0 0 0 3\n80", (12, 4)),
+            ("13 0 0 0 4\n12\n20\n23 1 0 0 3", (11, 1)),
+            ("20 2\n23 1 0 0 3", (7, 1)),
+        ] {
+            let tree = format!("Names \"gl_-\"\n12 0 1\n{records}");
+            assert_eq!(refusals_told(&tree), [(1, 0), (5, 0), first], "{records}");
+        }
+    }
+
     #[test]
     fn a_node_that_may_not_stand_there() {
         let said = explained("80 0 1\n  1 \"x\"\n", 5, 1);
@@ -278,27 +412,30 @@ mod tests {
         assert!(explained("Variable \"x\"", 5, 0).contains("expected here: Unit (or an expression"));
     }
 
-    /// Each number and place that a tree can be refused by, and no other.
+    /// Each number and place that a tree can be refused by, of small ones and the greatest.
+    fn refusals_told(text: &str) -> Vec<(usize, usize)> {
+        let pairs =
+            (0..20).chain([usize::MAX]).flat_map(|number| (0..5).chain([usize::MAX]).map(move |at| (number, at)));
+        pairs.filter(|(number, place)| explained_or_not(text, *number, *place).is_ok()).collect()
+    }
+
     #[test]
     fn what_is_no_refusal_of_a_tree() {
-        let places = |text: &str| -> Vec<(usize, usize)> {
-            let pairs =
-                (0..20).chain([usize::MAX]).flat_map(|number| (0..5).chain([usize::MAX]).map(move |at| (number, at)));
-            pairs.filter(|(number, place)| explained_or_not(text, *number, *place).is_ok()).collect()
-        };
-        assert_eq!(places("Unit\n1\n2"), [(1, 0), (5, 0), (12, 1)]);
-        assert_eq!(places("PostInc\n  Variable \"if\""), [(1, 0), (5, 0), (11, 1)]);
-        assert_eq!(places("Variable \"x\"").split_off(3), [(13, 2), (13, 3), (13, 4), (13, usize::MAX)]);
-        assert_eq!(places("Comma\n  Variable \"x\"\n  7 6\n    Variable \"y\""), [(1, 0), (5, 0), (7, 2)]);
-        assert_eq!(places("Comma\n  FloatConst \"1.0\"\n  7 6\n    Variable \"y\""), [(1, 0), (5, 0), (11, 1)]);
-        assert_eq!(places("Bytes \"x\""), [(1, 0), (2, 0)]);
+        assert_eq!(refusals_told("Unit\n1\n2"), [(1, 0), (5, 0), (12, 1)]);
+        assert_eq!(refusals_told("PostInc\n  Variable \"if\""), [(1, 0), (5, 0), (11, 1)]);
+        assert_eq!(refusals_told("Variable \"x\"").split_off(3), [(13, 2), (13, 3), (13, 4), (13, usize::MAX)]);
+        assert_eq!(refusals_told("Comma\n  Variable \"x\"\n  7 6\n    Variable \"y\""), [(1, 0), (5, 0), (7, 2)]);
+        assert_eq!(refusals_told("Comma\n  FloatConst \"1.0\"\n  7 6\n    Variable \"y\""), [(1, 0), (5, 0), (11, 1)]);
+        assert_eq!(refusals_told("Bytes \"x\""), [(1, 0), (2, 0)]);
     }
 
     #[test]
     fn doubts_say_why() {
         let doubt = |number, place| explained_or_not("Unit", number, place).expect_err("it can't be");
-        assert_eq!(doubt(99, 3), "there is no refusal 99; they have the numbers 1 to 13");
-        assert_eq!(doubt(0, 0), "there is no refusal 0; they have the numbers 1 to 13");
+        for number in [0, 14, 16, 99] {
+            let none = format!("there is no refusal {number}; they have the numbers 1 to 13, 15");
+            assert_eq!(doubt(number, 0), none);
+        }
         assert_eq!(doubt(7, 1), "this tree is not refused by 7 at 1: its records fit together");
         assert_eq!(doubt(1, 1), "this tree is not refused by 1 at 1: the place of that refusal is 0");
     }

@@ -4,6 +4,7 @@
 pub mod document;
 pub mod explain;
 pub mod line;
+pub mod ranges;
 pub mod read;
 pub mod record;
 pub mod table;

@@ -1,8 +1,8 @@
-//! Document 01's table of kinds ("Tree records"; the type keywords are document 02's, #102), with the words that a text
-//! has for them: each kind, its variants, what it holds and its children, said once. Reading, writing and explaining all
-//! go by it.
+//! Document 01's table of kinds ("Tree records"; the type keywords are document 02's, #102, and which names are declared,
+//! #105), with the words that a text has for them: each kind, its variants, what it holds and its children, said once.
+//! Reading, writing and explaining all go by it.
 
-use Class::{Base, Callee, Expression, External, Only, Precision, Statement};
+use Class::{Base, Callee, Declaring, Expression, External, Only, Precision, Statement};
 use Holds::{Float, Name, Nothing, PerhapsName, Signed, Unsigned};
 use Part::{Any, AtLeastOne, One, Perhaps};
 
@@ -25,6 +25,8 @@ pub enum Class {
     Precision,
     /// Records of one kind.
     Only(u8),
+    /// Records of one kind, whose name is declared there.
+    Declaring(u8),
 }
 
 impl Class {
@@ -38,13 +40,18 @@ impl Class {
             Class::Statement => kind == DECLARATION || (60..=68).contains(&kind),
             Class::External => kind == DECLARATION || kind == FUNCTION,
             Class::Precision => kind == QUALIFIER,
-            Class::Only(only) => kind == only,
+            Class::Only(only) | Class::Declaring(only) => kind == only,
         }
     }
 
     /// Whether a record of this kind and variant may.
     pub fn takes(self, kind: u8, variant: u8) -> bool {
         self.takes_kind(kind) && (self != Class::Precision || (19..=21).contains(&variant))
+    }
+
+    /// Whether the name of a record that stands there is declared, whatever its kind says.
+    pub fn declares(self) -> bool {
+        matches!(self, Class::Declaring(_))
     }
 
     /// The nodes that may stand there.
@@ -65,7 +72,9 @@ impl Class {
             Class::Precision => "Precision".into(),
             Class::Only(QUALIFIER) => self.members(),
             Class::Only(DECLARATION) => "Declaration".into(),
-            Class::Only(kind) => form_of(kind, 0).map_or_else(|| format!("kind {kind}"), |form| form.label.into()),
+            Class::Only(kind) | Class::Declaring(kind) => {
+                form_of(kind, 0).map_or_else(|| format!("kind {kind}"), |form| form.label.into())
+            }
         }
     }
 }
@@ -127,6 +136,8 @@ pub struct Form {
     pub choices: &'static [&'static str],
     /// What a and b hold.
     pub holds: Holds,
+    /// Whether a name that they hold is declared wherever the record stands: it is none that GLSL keeps for itself.
+    pub declares: bool,
     /// The children.
     pub parts: &'static [Part],
 }
@@ -158,6 +169,11 @@ impl Form {
             Holds::PerhapsName(flag) => self.has(variant, flag),
             Holds::Nothing | Holds::Signed | Holds::Unsigned => false,
         }
+    }
+
+    /// Whether a record of this form declares its name where a class is asked for.
+    pub fn declares_in(&self, class: Class) -> bool {
+        self.declares || class.declares()
     }
 
     /// The words of a variant.
@@ -289,7 +305,12 @@ const INTERPOLATION: &[&str] = &["smooth", "flat", "noperspective"];
 
 /// A form without a word of choice.
 const fn form(kind: u8, variant: u8, label: &'static str, holds: Holds, parts: &'static [Part]) -> Form {
-    Form { kind, variant, label, choices: &[], holds, parts }
+    Form { kind, variant, label, choices: &[], holds, declares: false, parts }
+}
+
+/// A form that declares the name that it holds.
+const fn declaring(kind: u8, variant: u8, label: &'static str, holds: Holds, parts: &'static [Part]) -> Form {
+    Form { declares: true, ..form(kind, variant, label, holds, parts) }
 }
 
 /// A form with a word of choice; it holds nothing.
@@ -300,7 +321,7 @@ const fn chosen(
     choices: &'static [&'static str],
     parts: &'static [Part],
 ) -> Form {
-    Form { kind, variant, label, choices, holds: Holds::Nothing, parts }
+    Form { choices, ..form(kind, variant, label, Holds::Nothing, parts) }
 }
 
 /// The table.
@@ -326,7 +347,7 @@ pub static FORMS: &[Form] = &[
     form(20, 0, "Type", Nothing, &[One(Base), Perhaps(1, Only(24))]),
     chosen(21, 0, "Keyword", KEYWORDS, &[]),
     form(22, 0, "TypeName", Name, &[]),
-    form(23, 0, "Struct", PerhapsName(1), &[Any(Only(26))]),
+    declaring(23, 0, "Struct", PerhapsName(1), &[Any(Only(26))]),
     form(24, 0, "Array", Nothing, &[AtLeastOne(Only(25))]),
     form(25, 0, "Dimension", Nothing, &[Perhaps(1, Expression)]),
     form(26, 0, "Field", Nothing, &[Perhaps(1, Only(28)), One(Only(20)), AtLeastOne(Only(27))]),
@@ -343,8 +364,8 @@ pub static FORMS: &[Form] = &[
     form(30, 2, "LayoutId shared", Nothing, &[]),
     form(31, 0, "Full type", Nothing, &[Perhaps(1, Only(28)), One(Only(20))]),
 
-    form(40, 0, "Prototype", Name, &[One(Only(31)), Any(Only(41))]),
-    form(41, 0, "Parameter", Nothing, &[Perhaps(2, Only(28)), One(Only(20)), Perhaps(1, Only(27))]),
+    declaring(40, 0, "Prototype", Name, &[One(Only(31)), Any(Only(41))]),
+    form(41, 0, "Parameter", Nothing, &[Perhaps(2, Only(28)), One(Only(20)), Perhaps(1, Declaring(27))]),
     form(42, 0, "Declarators", Nothing, &[One(Only(43)), Any(Only(44))]),
     form(43, 0, "First declarator", PerhapsName(1), &[One(Only(31)), Perhaps(2, Only(24)), Perhaps(4, Only(45))]),
     form(44, 0, "Next declarator", Nothing, &[One(Only(27)), Perhaps(1, Only(45))]),

@@ -24,7 +24,7 @@ pub struct Walk {
     pub places: Vec<Place>,
     /// The place that no record is left for.
     pub missing: Option<Place>,
-    /// The refusal that ended it, with its place: 4 to 10 or 12.
+    /// The refusal that ended it, with its place: 4 to 10 or 12. What is wrong with texts (11, 15) does not end it.
     pub refusal: Option<(u8, usize)>,
 }
 
@@ -62,8 +62,8 @@ pub fn walk(records: &[Record], names: &[u8]) -> Walk {
     found
 }
 
-/// The form of a record that fits its place, or the number of the first refusal that it gets. Forms of texts (11) are
-/// left to `explain`.
+/// The form of a record that fits its place, or the number of the first refusal that it gets. Texts that are there (11,
+/// 15) are left to `explain`.
 fn refusal_of(record: Record, place: Place, names: &[u8]) -> Result<&'static Form, u8> {
     let Record { kind, variant, count, a, b } = record;
     if !place.class.takes_kind(kind) {

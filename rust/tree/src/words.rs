@@ -1,11 +1,25 @@
 //! The words and operators of the printer, and the forms of names and of the texts of floats (document 01, "Tree
-//! records").
+//! records"; document 02, #105).
 
 use crate::table::{form_of, Holds};
 
 /// The most bytes of a name, and of the text of a float.
 const LONGEST_NAME: usize = 255;
 const LONGEST_FLOAT: usize = 400;
+
+/// What the names begin with that GLSL keeps for itself (4.60, section 3.7).
+pub const RESERVED: &str = "gl_";
+
+/// What a text is as a name.
+#[derive(Clone, Copy, Debug, PartialEq, Eq)]
+pub enum NameSort {
+    /// A name for all uses.
+    Ordinary,
+    /// A name that GLSL keeps for itself: it may be used, and not be a function's, a struct's or a parameter's.
+    Reserved,
+    /// No name.
+    NoName,
+}
 
 /// The words of the printer that no variant stands for.
 const LONE_WORDS: [&str; 10] = ["precision", "struct", "if", "else", "switch", "case", "default", "while", "do", "for"];
@@ -50,9 +64,20 @@ pub fn fixed_words() -> Vec<String> {
 /// Whether a text has the form of what a record holds. A name is none of the fixed words.
 pub fn has_form(text: &[u8], holds: Holds, fixed_words: &[String]) -> bool {
     match holds {
-        Holds::Name | Holds::PerhapsName(_) => is_name(text) && !fixed_words.iter().any(|word| word.as_bytes() == text),
+        Holds::Name | Holds::PerhapsName(_) => name_sort(text, fixed_words) != NameSort::NoName,
         Holds::Float => is_float(text),
         Holds::Nothing | Holds::Signed | Holds::Unsigned => true,
+    }
+}
+
+/// What a text is as a name, which is none of the fixed words.
+pub fn name_sort(text: &[u8], fixed_words: &[String]) -> NameSort {
+    if !is_name(text) || fixed_words.iter().any(|word| word.as_bytes() == text) {
+        NameSort::NoName
+    } else if text.starts_with(RESERVED.as_bytes()) {
+        NameSort::Reserved
+    } else {
+        NameSort::Ordinary
     }
 }
 
@@ -104,6 +129,21 @@ mod tests {
             (&long(256), false),
         ] {
             assert_eq!(has_form(text.as_bytes(), Holds::Name, &fixed_words()), fits, "{text}");
+        }
+    }
+
+    /// Case counts, and the three letters are a name themselves; what has a wrong form is no name, reserved or not.
+    #[test]
+    fn names_that_glsl_keeps() {
+        let long = |length| format!("{:x<length$}", "gl_");
+        for (sort, texts) in [
+            (NameSort::Reserved, &["gl_Position", "gl_", "gl__", &long(255)][..]),
+            (NameSort::Ordinary, &["gl", "glx", "GL_x", "Gl_x", "_gl_x", "my_gl_x"]),
+            (NameSort::NoName, &["gl_-", &long(256), "if", ""]),
+        ] {
+            for text in texts {
+                assert_eq!(name_sort(text.as_bytes(), &fixed_words()), sort, "{text}");
+            }
         }
     }
 

@@ -33,7 +33,8 @@ fn wrong_words_are_refused() {
 #[test]
 fn what_is_no_refusal_is_not_explained() {
     for (number, place, doubt) in [
-        ("99", "3", "there is no refusal 99; they have the numbers 1 to 13\n"),
+        ("99", "3", "there is no refusal 99; they have the numbers 1 to 13, 15\n"),
+        ("15", "2", "this tree is not refused by 15 at 2: its records fit together\n"),
         ("7", "3", "this tree is not refused by 7 at 3: its records fit together\n"),
         ("2", "0", "this tree is not refused by 2 at 0: its records and names have sizes that are allowed\n"),
         ("11", "2", "this tree is not refused by 11 at 2: its records fit together\n"),

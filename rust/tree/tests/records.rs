@@ -3,11 +3,11 @@
 
 use std::path::Path;
 use tree::document::filled;
-use tree::explain::REFUSALS;
+use tree::explain::{meaning, REFUSALS};
 use tree::record::{MOST_NAMES, MOST_RECORDS};
 use tree::table::Holds;
 use tree::walk::DEEPEST;
-use tree::words::{fixed_words, has_form, symbols_of, words_of};
+use tree::words::{fixed_words, has_form, symbols_of, words_of, RESERVED};
 
 fn file(path: &str) -> String {
     let path = Path::new(env!("CARGO_MANIFEST_DIR")).join("../..").join(path);
@@ -81,6 +81,13 @@ fn the_words_are_those_of_the_printer() {
 }
 
 #[test]
+fn the_reserved_names_are_those_of_the_printer() {
+    let form = file("crates/words/specs/Form.antt");
+    assert_eq!(between(&form, "\nreserved s = same (take 3 s) (bytes \"", "\")\n"), RESERVED);
+    assert!(document().contains(&format!("A name that begins with `{RESERVED}` is **reserved**")));
+}
+
+#[test]
 fn the_operators_are_those_of_the_printer() {
     let symbols = file("crates/words/specs/Symbol.antt");
     for (kind, list) in [(7, "unaryOperators"), (8, "binaryOperators"), (10, "assignmentOperators")] {
@@ -142,7 +149,8 @@ fn the_limits_are_those_of_the_printer() {
     ] {
         assert!(document.contains(&row), "{row}");
     }
-    assert!(REFUSALS[1].0.ends_with(&records) && REFUSALS[2].0.contains(&names));
+    assert!(meaning(2).is_some_and(|text| text.ends_with(&records)));
+    assert!(meaning(3).is_some_and(|text| text.contains(&names)));
 }
 
 #[test]
@@ -160,8 +168,10 @@ fn the_limits_of_trees_are_those_of_the_printer() {
 #[test]
 fn the_refusals_are_those_of_the_printer() {
     let spec = file("crates/accept/specs/Refusal.antt");
-    let numbers: Vec<usize> = spec.lines().filter(|line| line.starts_with("number Why.")).map(number_behind).collect();
-    assert_eq!(numbers, (1..=REFUSALS.len()).collect::<Vec<_>>());
+    let mut numbers: Vec<usize> =
+        spec.lines().filter(|line| line.starts_with("number Why.")).map(number_behind).collect();
+    numbers.sort_unstable();
+    assert_eq!(numbers, REFUSALS.iter().map(|(number, ..)| *number).collect::<Vec<_>>());
 }
 
 fn number_behind(line: &str) -> usize {

@@ -1,6 +1,6 @@
 //! The table of kinds says what the printer's own table says (crates/shapes/src/rows.rt, which is proved to be the
 //! documents'): for every kind and variant what it holds, its count and its children, and for every place what may stand
-//! there.
+//! there and whether its name is declared.
 
 mod sample;
 
@@ -32,9 +32,14 @@ impl Shapes {
         (variant <= head[0]).then(|| &self.bytes[start..start + 8])
     }
 
+    /// The row of a part's class.
+    fn class(&self, part: u8) -> &[u8] {
+        &self.bytes[self.first_class + 8 * usize::from(part % 32)..]
+    }
+
     /// Whether a kind and variant may stand where a part's class is asked for.
     fn takes(&self, part: u8, kind: u8, variant: u8) -> (bool, bool) {
-        let class = &self.bytes[self.first_class + 8 * usize::from(part % 32)..];
+        let class = self.class(part);
         let kinds = (class[0]..=class[1]).contains(&kind) || kind == class[2];
         (kinds, kinds && (class[3]..=class[4]).contains(&variant))
     }
@@ -44,11 +49,17 @@ impl Shapes {
         (0..32).any(|class| self.takes(class, kind, 0).0)
     }
 
+    /// Whether a name is declared where a part's class is asked for.
+    fn declares(&self, part: u8) -> bool {
+        self.class(part)[5] == 1
+    }
+
     /// Whether a part's class is a class of ours.
     fn same(&self, part: u8, class: Class) -> bool {
         let same =
             |kind, variant| self.takes(part, kind, variant) == (class.takes_kind(kind), class.takes(kind, variant));
-        (0..=u8::MAX).all(|kind| (0..=u8::MAX).all(|variant| same(kind, variant)))
+        let takes_the_same = (0..=u8::MAX).all(|kind| (0..=u8::MAX).all(|variant| same(kind, variant)));
+        takes_the_same && self.declares(part) == class.declares()
     }
 }
 
@@ -56,8 +67,8 @@ impl Shapes {
 fn held(form: &Form, variant: u8) -> [u8; 2] {
     let fields = match form.holds {
         Holds::Signed | Holds::Unsigned => 1,
-        Holds::Float => 3,
-        _ if form.has_text(variant) => 2,
+        Holds::Float => 4,
+        _ if form.has_text(variant) => 2 + u8::from(form.declares),
         _ => 0,
     };
     let (counted, at_least_one) = form.counts();

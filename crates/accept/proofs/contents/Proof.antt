@@ -1,12 +1,13 @@
 -- `accept::contents` meets its contract: the tests stand in the definition's order. Assumes nothing.
-use mathlib.Core.Path.{_≡_, refl}
+use mathlib.Core.Path.{_≡_, refl, _∙_}
 use mathlib.Core.Bool.{false}
+use mathlib.Core.Option.{none}
 use Prim.Native.Nat.{_<_}
 use native.Mathlib.Omega.{arith}
 use Rattle.shapes.specs.Shape.{Fields}
-use Rattle.shapes.specs.Table.{cell}
+use Rattle.shapes.specs.Table.{cell, allowedAt}
 use Rattle.records.specs.Record.{textOf}
-use Rattle.accept.specs.Check.{textBeyond, textMisformed}
+use Rattle.accept.specs.Check.{textBeyond, textFault}
 use Rattle.accept.proofs.Codes.{no-text}
 use borrow.Author.Needs.{needs}
 use Rattle.accept.proofs.contents.Statement.{statement}
@@ -30,15 +31,15 @@ returns-2 c = simp (← c .before .field-set .ensures, ← c .before .before .co
 cell-requires : tie.Need-cell-requires
 cell-requires c κs = search needs
 
-add-t14 : tie.Need-add-t14
-add-t14 c = search needs
+add-t15 : tie.Need-add-t15
+add-t15 c = search needs
 
 returns-3 : tie.Need-returns-3
 returns-3 c =
     let a = c .before .before .before .before .before .before .before .before .args in
     let h : cell (a .t .now) (a .row) < 2 = omega (arith, c .before .cell .ensures) in
     let within = no-text (a .t .now) (a .row) h (λ (f : Fields). textBeyond (a .names .now) f (a .r .a) (a .r .b) ≡ false) refl refl in
-    let formed = no-text (a .t .now) (a .row) h (λ (f : Fields). textMisformed f (textOf (a .names .now) (a .r)) ≡ false) refl refl in
+    let formed = no-text (a .t .now) (a .row) h (λ (f : Fields). textFault (allowedAt (a .t .now) (a .c) .declares) f (textOf (a .names .now) (a .r)) ≡ none) refl refl in
     simp (within, formed, ← c .before .before .before .field-set .ensures, ← c .before .before .before .before .count-set .ensures, ← c .before .before .before .before .before .before .count-missing .ensures, c .before .before .before .before .before .if1 .left, c .before .before .if2 .left)
 
 text-beyond-requires : tie.Need-text-beyond-requires
@@ -50,17 +51,11 @@ returns-4 c = simp (← c .before .text-beyond .ensures, ← c .before .before .
 part-of-requires : tie.Need-part-of-requires
 part-of-requires c κs = search needs
 
-text-misformed-requires : tie.Need-text-misformed-requires
-text-misformed-requires c κs = search needs
+text-judged-requires : tie.Need-text-judged-requires
+text-judged-requires c κs = search needs
 
 returns-5 : tie.Need-returns-5
-returns-5 c = simp (← c .before .before .part-of .ensures, ← c .before .text-misformed .ensures, ← c .before .before .before .before .text-beyond .ensures, ← c .before .before .before .before .before .before .before .before .field-set .ensures, ← c .before .before .before .before .before .before .before .before .before .count-set .ensures, ← c .before .before .before .before .before .before .before .before .before .before .before .count-missing .ensures, c .before .before .before .before .before .before .before .before .before .before .if1 .left, c .before .before .before .before .before .before .before .if2 .left, c .before .before .before .if4 .left, c .if5 .taken)
-
-add-t20 : tie.Need-add-t20
-add-t20 c = search needs
-
-returns-6 : tie.Need-returns-6
-returns-6 c = simp (← c .before .before .part-of .ensures, ← c .before .text-misformed .ensures, ← c .before .before .before .before .text-beyond .ensures, ← c .before .before .before .before .before .before .before .before .field-set .ensures, ← c .before .before .before .before .before .before .before .before .before .count-set .ensures, ← c .before .before .before .before .before .before .before .before .before .before .before .count-missing .ensures, c .before .before .before .before .before .before .before .before .before .before .if1 .left, c .before .before .before .before .before .before .before .if2 .left, c .before .before .before .if4 .left, c .if5 .left)
+returns-5 c = c .text-judged .ensures ∙ simp (← c .before .part-of .ensures, ← c .before .before .before .text-beyond .ensures, ← c .before .before .before .before .before .before .before .field-set .ensures, ← c .before .before .before .before .before .before .before .before .count-set .ensures, ← c .before .before .before .before .before .before .before .before .before .before .count-missing .ensures, c .before .before .before .before .before .before .before .before .before .if1 .left, c .before .before .before .before .before .before .if2 .left, c .before .before .if4 .left)
 
 pub contents-spec : {M : Type 1} → statement M
 contents-spec =
@@ -72,12 +67,10 @@ contents-spec =
     field-set-requires
     returns-2
     cell-requires
-    add-t14
+    add-t15
     returns-3
     text-beyond-requires
     returns-4
     part-of-requires
-    text-misformed-requires
-    returns-5
-    add-t20
-    returns-6)
+    text-judged-requires
+    returns-5)

@@ -1,4 +1,4 @@
--- `walk::check_unit` meets its contract: the class of number 26. Assumes nothing.
+-- `walk::check_unit` meets its contract: the class of number 27. Assumes nothing.
 use Rattle.shapes.specs.Table.{classOf}
 use borrow.Author.Needs.{needs}
 use Rattle.walk.proofs.check_unit.Statement.{statement}
