@@ -16,7 +16,8 @@ import re
 import sys
 
 NAME = r'[^\s(){}.;,@"«»|]+'
-DECLARED = re.compile(r"(?m)^ *(?:\w+ )*?(\S+)(?: \{[^{}\n]*\})* :(?!\S)")
+# Several constructors may stand before one colon.
+DECLARED = re.compile(rf"(?m)^ *((?:{NAME} +)*{NAME})(?: \{{[^{{}}\n]*\}})* :(?!\S)")
 USE = re.compile(r"^[ \t]*(?:pub )?(?:ghost )?use ([^\s;{]+?)\.?(?:\{([^}]*)\})?(?: as ([^\s;]+))?;?[ \t]*$", re.M)
 TOKEN = re.compile(rf"(\.?)(«?)({NAME})")
 # A string, a comment or a token
@@ -67,7 +68,8 @@ class Texts:
         self.declared = set()
         for f in self.antt:
             with open(f, encoding="utf-8") as it:
-                self.declared.update(n for n in DECLARED.findall(without_comments(it.read(), "--")) if is_own_style(n))
+                names = " ".join(DECLARED.findall(without_comments(it.read(), "--"))).split()
+                self.declared.update(n for n in names if is_own_style(n))
 
     def borrowed(self, code):
         """The names and the module names that a file takes from libraries."""

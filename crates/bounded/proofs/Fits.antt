@@ -75,7 +75,7 @@ brackets false = 6
 pub weighs_bare : (b : Bool) (cs : List Command) → weighs (bare_if b cs) ≡ min 6 (brackets b) + weighs cs
 unfolding weighs
 weighs_bare true cs = omega arith
-weighs_bare false cs = omega (arith, weighs_append cs (symbol Symbol.right-paren ∷ []))
+weighs_bare false cs = omega (arith, weighs_append cs (symbol Symbol.right_paren ∷ []))
 
 -- a space that is needed
 abbrev gaps : Bool → ℕ
@@ -91,7 +91,7 @@ weighs_apart false f cs = omega arith
 pub weighs_unless : (b : Bool) (cs : List Command) → weighs (cond b [] (parenthesized cs)) ≤ 6 + weighs cs
 unfolding weighs
 weighs_unless true cs = omega arith
-weighs_unless false cs = omega (arith, weighs_append cs (symbol Symbol.right-paren ∷ []))
+weighs_unless false cs = omega (arith, weighs_append cs (symbol Symbol.right_paren ∷ []))
 
 abbrev separators : Bool → ℕ
 separators true = 0

@@ -50,7 +50,7 @@ module _ (rs ns : List ℕ) where
   table Class.dimension = only (dimension_kind rs ns)
   table Class.field = only (field_kind rs ns)
   table Class.identifier = only (identifier_kind rs ns)
-  table Class.parameter-identifier = only (parameter_identifier_kind rs ns)
+  table Class.parameter_identifier = only (parameter_identifier_kind rs ns)
   table Class.qualifier = only (qualifier_kind rs ns)
   table Class.spec = only (spec_kind rs ns)
   table Class.precision = only (precision_kind rs ns)

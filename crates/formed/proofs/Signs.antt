@@ -90,7 +90,7 @@ starts_token k cs b bs e f h = record {
 pub starts_bare : {s : ℕ} {cs : List Command} (b : Bool) → Starts s cs → Starts (sign_if b s) (bare_if b cs)
 unfolding spell symbol_text has name_byte letter digit
 starts_bare true h = h
-starts_bare false h = starts_token (Token.symbol Symbol.left-paren) _ (code "(") [] refl refl refl
+starts_bare false h = starts_token (Token.symbol Symbol.left_paren) _ (code "(") [] refl refl refl
 
 -- a byte that passes a test which no sign passes
 no_sign : (test : ℕ → Bool) (b : ℕ) → test plus ≡ false → test minus ≡ false → test b ≡ true → sign_byte b ≡ 0

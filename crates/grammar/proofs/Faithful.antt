@@ -378,22 +378,22 @@ good_on y Role.colon h x s ts q g p =
     let c : Settling 17 s ts put_else q = settling 17 x s ts put_else q (omega arith) g p in rw h (else_at c.s' c.e' c.m ts q c.stands c.result)
 good_on y Role.comma h x s ts q g p =
     let c : Settling 17 s ts put_comma q = settling 17 x s ts put_comma q (omega arith) g p in rw h (comma_at c.s' c.e' c.m ts q c.stands c.result)
-good_on y Role.open-paren h x s ts q g p =
+good_on y Role.open_paren h x s ts q g p =
     let us : List Token = symbol left_paren ∷ [] in
     rw h (is_state (want (within (call x no_exprs) ∷ s)) q (ts ++ us) p
     (g.before, g.own ++ us, g.opened, omega (arith, room_3 s), (g.own, g.means, refl), rw g.whole (append_assoc g.before g.own us)))
-good_on y Role.close-paren h x s ts q g p = rw h (go (and_then (settle 17 x s) close_parens) refl p)
+good_on y Role.close_paren h x s ts q g p = rw h (go (and_then (settle 17 x s) close_parens) refl p)
   where
     go : (o : Option State) → and_then (settle 17 x s) close_parens ≡ o → or_else o (void_call x s) ≡ some q → Good q (ts ++ (symbol right_paren ∷ []))
     go none i j = void_call_at x s ts q g j
     go (some z) i j =
         let c : Settling 17 s ts close_parens z = settling 17 x s ts close_parens z (omega arith) g i in
         is_state z q (ts ++ (symbol right_paren ∷ [])) j (close_parens_at c.s' c.e' c.m ts z c.stands c.result)
-good_on y Role.open-bracket h x s ts q g p =
+good_on y Role.open_bracket h x s ts q g p =
     let us : List Token = symbol left_bracket ∷ [] in
     rw h (is_state (want (within (index x) ∷ s)) q (ts ++ us) p
     (g.before, g.own ++ us, g.opened, omega (arith, room_3 s), (g.own, g.means, refl), rw g.whole (append_assoc g.before g.own us)))
-good_on y Role.close-bracket h x s ts q g p =
+good_on y Role.close_bracket h x s ts q g p =
     let c : Settling 17 s ts (close_subscript (leb (strength s 2) 15)) q = settling 17 x s ts (close_subscript (leb (strength s 2) 15)) q (omega arith) g p in
     rw h (close_subscript_at c.s' c.e' c.m (strength s 2) ts q c.stands c.strong c.result)
 good_on y Role.dot h x s ts q g p =
@@ -415,10 +415,10 @@ good_begin : (y : Symbol) (r : Start) → StartOf y r → (s : Stack) (ts : List
 unfolding begin makes gives
 good_begin y (Start.unary u) h s ts q o p =
     rw h (is_state (want (behind (Operator.unary u) ∷ s)) q (ts ++ (symbol (unary_symbol u) ∷ [])) p (ts, symbol (unary_symbol u) ∷ [], o, room_3 s, refl, refl))
-good_begin y Start.open-paren h s ts q o p =
+good_begin y Start.open_paren h s ts q o p =
     rw h (is_state (want (within parens ∷ s)) q (ts ++ (symbol left_paren ∷ [])) p (ts, symbol left_paren ∷ [], o, omega (arith, room_3 s), refl, refl))
-good_begin y Start.close-paren h s ts q o p = rw h (empty_call_at s ts [] ts q o d-no_args (sym (append-nil ts)) p)
-good_begin y Start.close-bracket h s ts q o p = rw h (empty_subscript_at s ts q o p)
+good_begin y Start.close_paren h s ts q o p = rw h (empty_call_at s ts [] ts q o d-no_args (sym (append-nil ts)) p)
+good_begin y Start.close_bracket h s ts q o p = rw h (empty_subscript_at s ts q o p)
 good_begin y Start.nothing h s ts q o p = no_some p
 
 good_take : (c : Option Expr) (t : Token) → constant t ≡ c → (s : Stack) (ts : List Token) (q : State) → Open s ts → take c t s ≡ some q → Good q (ts ++ (t ∷ []))

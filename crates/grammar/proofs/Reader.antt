@@ -191,9 +191,9 @@ void_call (typed (keyword (suc k)) ds) s = none
 
 unfoldable pub begin : Start → Stack → Option State
 begin (Start.unary u) s = some (want (behind (Operator.unary u) ∷ s))
-begin Start.open-paren s = some (want (within parens ∷ s))
-begin Start.close-paren s = empty_call s
-begin Start.close-bracket s = empty_subscript s
+begin Start.open_paren s = some (want (within parens ∷ s))
+begin Start.close_paren s = empty_call s
+begin Start.close_bracket s = empty_subscript s
 begin Start.nothing s = none
 
 unfoldable pub go_on : Role → Operand → Stack → Option State
@@ -203,10 +203,10 @@ go_on (Role.postfix p) x s = and_then (as_expr x) (λ e. some (have (val (posted
 go_on Role.question x s = and_then (settle 14 x s) (put (λ a. within (choice a)))
 go_on Role.colon x s = and_then (settle 17 x s) put_else
 go_on Role.comma x s = and_then (settle 17 x s) put_comma
-go_on Role.open-paren x s = some (want (within (call x no_exprs) ∷ s))
-go_on Role.close-paren x s = or_else (and_then (settle 17 x s) close_parens) (void_call x s)
-go_on Role.open-bracket x s = some (want (within (index x) ∷ s))
-go_on Role.close-bracket x s = and_then (settle 17 x s) (close_subscript (leb (strength s 2) 15))
+go_on Role.open_paren x s = some (want (within (call x no_exprs) ∷ s))
+go_on Role.close_paren x s = or_else (and_then (settle 17 x s) close_parens) (void_call x s)
+go_on Role.open_bracket x s = some (want (within (index x) ∷ s))
+go_on Role.close_bracket x s = and_then (settle 17 x s) (close_subscript (leb (strength s 2) 15))
 go_on Role.dot x s = and_then (as_expr x) (λ e. some (field e s))
 go_on Role.nothing x s = none
 

@@ -7,7 +7,7 @@ ghost use Rattle.records.specs.Record.{record_at, part};
 ghost use Rattle.settings.specs.declared.Settings.{Settings};
 ghost use Rattle.text.specs.Token.{Token};
 ghost use Rattle.text.specs.Asked.{Flag, flag};
-ghost use Rattle.text.specs.Asked.Flag.{spaces-where-needed, needed-operator-spaces};
+ghost use Rattle.text.specs.Asked.Flag.{spaces_where_needed, needed_operator_spaces};
 ghost use Rattle.text.specs.Command.{write_binary_op};
 ghost use Rattle.text.specs.Operator.{unary_symbol, binary_symbol, assignment_symbol};
 ghost use Rattle.text.specs.Joins.{joins_under, joins_right, is_int};
@@ -87,7 +87,7 @@ pub fn show_unary_op(
     most: u8,
 ) -> Pen
     requires { (t.now ≡ Table.table) × (most ≡ most_under v (record_at records.now pen.next)) }
-    ensures { (names : List ℕ) → let e = (expr (from records.now names pen.next)).tree in Ran s (a_symbol (unary_symbol (unary_op_of v)) ++ apart (joins_under (unary_op_of v) e) spaces-where-needed []) room.old pen room.new result }
+    ensures { (names : List ℕ) → let e = (expr (from records.now names pen.next)).tree in Ran s (a_symbol (unary_symbol (unary_op_of v)) ++ apart (joins_under (unary_op_of v) e) spaces_where_needed []) room.old pen room.new result }
 {
     let op = pen.write_word(room, t, section_row(rows::UNARY, LAST_UNARY, v));
     if !s.spaces_where_needed {
@@ -109,7 +109,7 @@ pub fn show_binary_op(
     v: u8,
 ) -> Pen
     requires { t.now ≡ Table.table }
-    ensures { (names : List ℕ) → let e = (expr (from records.now names pen.next)).tree in Ran s (write_binary_op (binary_symbol (binary_op_of v)) ++ apart (joins_right (binary_op_of v) e) needed-operator-spaces []) room.old pen room.new result }
+    ensures { (names : List ℕ) → let e = (expr (from records.now names pen.next)).tree in Ran s (write_binary_op (binary_symbol (binary_op_of v)) ++ apart (joins_right (binary_op_of v) e) needed_operator_spaces []) room.old pen room.new result }
 {
     let text = word_table::row(t, section_row(rows::BINARY, LAST_BINARY, v));
     let op = pen.write_binary_op(room, s, text);
@@ -138,7 +138,7 @@ fn dot_apart(pen: Pen, records: &[u8], room: &mut [u8], at: usize, asked: bool) 
 
 // The dot behind the expression at record `at`, and before it the space that is needed.
 pub fn write_dot(pen: Pen, s: Settings, records: &[u8], room: &mut [u8], at: usize) -> Pen
-    ensures { (names : List ℕ) → Ran s (apart (is_int (expr (from records.now names at)).tree) spaces-where-needed (a_symbol Symbol.dot)) room.old pen room.new result }
+    ensures { (names : List ℕ) → Ran s (apart (is_int (expr (from records.now names at)).tree) spaces_where_needed (a_symbol Symbol.dot)) room.old pen room.new result }
 {
     let behind = dot_apart(pen, records, room, at, s.spaces_where_needed);
     behind.write_char(room, b'.')
@@ -222,7 +222,7 @@ pub fn show_name(pen: Pen, room: &mut [u8], names: &[u8], named: bool, a: u32, b
 
 // Brackets, where they are asked for.
 pub fn open_if(pen: Pen, room: &mut [u8], on: bool) -> Pen
-    ensures { (s : Settings) → Ran s (cond on (a_symbol Symbol.left-paren) []) room.old pen room.new result }
+    ensures { (s : Settings) → Ran s (cond on (a_symbol Symbol.left_paren) []) room.old pen room.new result }
 {
     if on {
         return pen.write_char(room, b'(');
@@ -231,7 +231,7 @@ pub fn open_if(pen: Pen, room: &mut [u8], on: bool) -> Pen
 }
 
 pub fn close_if(pen: Pen, room: &mut [u8], on: bool) -> Pen
-    ensures { (s : Settings) → Ran s (cond on (a_symbol Symbol.right-paren) []) room.old pen room.new result }
+    ensures { (s : Settings) → Ran s (cond on (a_symbol Symbol.right_paren) []) room.old pen room.new result }
 {
     if on {
         return pen.write_char(room, b')');
@@ -241,7 +241,7 @@ pub fn close_if(pen: Pen, room: &mut [u8], on: bool) -> Pen
 
 // ++ or -- behind an operand.
 pub fn show_post(pen: Pen, room: &mut [u8], down: bool) -> Pen
-    ensures { (s : Settings) → Ran s (a_symbol (cond down Symbol.dec-op Symbol.inc-op)) room.old pen room.new result }
+    ensures { (s : Settings) → Ran s (a_symbol (cond down Symbol.dec_op Symbol.inc_op)) room.old pen room.new result }
 {
     if down {
         return pen.write_str(room, b"--");

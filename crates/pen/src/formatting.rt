@@ -5,7 +5,7 @@ ghost use Rattle.std.specs.Prelude.{◌≡◌, true, false, [], ◌∷◌};
 ghost use Rattle.settings.specs.declared.Settings.{Settings};
 ghost use Rattle.text.specs.Token.{Token};
 ghost use Rattle.text.specs.Command.{enter_block_inner, enter_compound_statement_block, enter_external_declaration, enter_block, exit_block, enter_collapsed_compound_statement, exit_collapsed_compound_statement, enter_initializer_list, end_initializer_list, enter_case_label, write_else, write_struct_field_separator, write_list_separator, write_for_statement_separator, write_struct_declaration_terminator, write_declaration_terminator, write_binary_token, write_statement_terminator, write_function_definition_terminator, write_statement_opening_parenthesis, write_statement_closing_parenthesis};
-ghost use Rattle.text.specs.Command.Command.{write-indent, write-line, flush-line, flush-space};
+ghost use Rattle.text.specs.Command.Command.{write_indent, write_line, flush_line, flush_space};
 ghost use Rattle.text.specs.Pen.{pend, at_body};
 ghost use Rattle.pen.specs.Sheet.{leave};
 ghost use Rattle.pen.specs.Run.{deeper, shallower, asked};
@@ -19,7 +19,7 @@ const LAST_LEVEL: u16 = 65535;
 impl Pen {
     // 000 IndentStyle::write at the level.
     fn write_indent(self, room: &mut [u8], s: Settings) -> Pen
-        ensures { Ran s (write-indent ∷ []) room.old self room.new result }
+        ensures { Ran s (write_indent ∷ []) room.old self room.new result }
     {
         let style = s.indent_style;
         let n = tokens::times(s.count, self.state.indentation_level);
@@ -31,7 +31,7 @@ impl Pen {
     }
 
     fn write_line(self, room: &mut [u8], s: Settings) -> Pen
-        ensures { Ran s (write-line ∷ []) room.old self room.new result }
+        ensures { Ran s (write_line ∷ []) room.old self room.new result }
     {
         self.write_char(room, b'\n').write_indent(room, s)
     }
@@ -58,7 +58,7 @@ impl Pen {
 
     // Here, and not when it is asked for, is the newline written.
     pub fn flush_line(self, room: &mut [u8], s: Settings) -> Pen
-        ensures { Ran s (flush-line ∷ []) room.old self room.new result }
+        ensures { Ran s (flush_line ∷ []) room.old self room.new result }
     {
         if self.state.new_line_pending {
             return self.write_line(room, s).consume_newline();
@@ -68,7 +68,7 @@ impl Pen {
 
     // It asks the settings for nothing.
     pub fn flush_space(self, room: &mut [u8]) -> Pen
-        ensures { (s : Settings) → Ran s (flush-space ∷ []) room.old self room.new result }
+        ensures { (s : Settings) → Ran s (flush_space ∷ []) room.old self room.new result }
     {
         if self.state.new_line_pending {
             return self.write_char(room, b' ').consume_newline();

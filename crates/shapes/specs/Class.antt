@@ -1,5 +1,5 @@
 -- What a place asks for, and the kinds that may stand there (01, "Tree records": the children of each kind). The names are those of the sorts of tree
--- in text's Reading, but `precision`, a `spec` of variants 19 to 21, and `parameter-identifier`, an `identifier` whose name is declared. Assumes nothing.
+-- in text's Reading, but `precision`, a `spec` of variants 19 to 21, and `parameter_identifier`, an `identifier` whose name is declared. Assumes nothing.
 use Rattle.std.specs.Prelude.{Bool, true, false, ◌&&◌, ◌||◌, ℕ, leb, eqb}
 
 pub data Class : Type 0 where

@@ -51,9 +51,9 @@ module _ (rs ns : List ℕ) {s : Settings} where
     prototype_of_lem k {p₂ = p₂} {p₅ = p₅} f a w n o b c =
         of_parts rs ns e (λ (x : Item). x.prototype) _ show_function_prototype 40 (omega arith) k f
         (begin (FunctionPrototype.prototype (text_of ns r)) shows piece show_fully_specified_type full_type a writes space w writes put (Token.name (text_of ns r)) refl n
-        writes put (Token.symbol Symbol.left-paren) refl o shows piece (λ ps. show_parameters ps true) (several r.count parameter [] ◌∷◌) b writes put (Token.symbol Symbol.right-paren) refl c) refl
-        (enclosed (show_fully_specified_type (full_type (from rs ns p.next)).tree ++ a_space ++ show_identifier (text_of ns r)) (a_symbol Symbol.left-paren)
-        (show_parameters (several r.count parameter [] ◌∷◌ (from rs ns p₅.next)).tree true) (a_symbol Symbol.right-paren))
+        writes put (Token.symbol Symbol.left_paren) refl o shows piece (λ ps. show_parameters ps true) (several r.count parameter [] ◌∷◌) b writes put (Token.symbol Symbol.right_paren) refl c) refl
+        (enclosed (show_fully_specified_type (full_type (from rs ns p.next)).tree ++ a_space ++ show_identifier (text_of ns r)) (a_symbol Symbol.left_paren)
+        (show_parameters (several r.count parameter [] ◌∷◌ (from rs ns p₅.next)).tree true) (a_symbol Symbol.right_paren))
 
     -- a parameter, with a name or without
     pub unnamed : r.kind ≡ 41 → (r.variant % 2 ≡ 1 → ⊥) → {room₂ : List ℕ} {p₂ : Pen} → p ≡ past rs p₀ → Shows show_qualification (qualification_if (bit1 r.variant)) s rs ns room₀ p room₂ p₂

@@ -70,7 +70,7 @@ below n q h = up_to n (q - 1) ∙ ap (ltb n) (omega arith)
 
 -- brackets, asked for by what is not bare
 pub bracketed : (e : Expr) (most q : ℕ) → precedence e ≡ q
-    → cond (ltb most q) (a_symbol Symbol.left-paren) [] ++ show_expr e ++ cond (ltb most q) (a_symbol Symbol.right-paren) [] ≡ operand most e
+    → cond (ltb most q) (a_symbol Symbol.left_paren) [] ++ show_expr e ++ cond (ltb most q) (a_symbol Symbol.right_paren) [] ≡ operand most e
 bracketed e most q h = split most q
     (λ k. rw (lt-ltb most q k, h, lt-leb q most k) refl)
     (λ k. rw (le-ltb most q k, h, le-leb q most k) (append-nil (show_expr e)))

@@ -156,14 +156,14 @@ module _ (rs ns : List ℕ) {s : Settings} where
     unfolding show_dimension spell symbol_text item_of dimension_of
     unsized k v f a b =
         of_parts (λ (x : Item). x.dimension) _ show_dimension 25 (omega arith) k f
-        (begin ArraySpecifierDimension.Unsized writes put (Token.symbol Symbol.left-bracket) refl a writes put (Token.symbol Symbol.right-bracket) refl b) (rw v refl) refl
+        (begin ArraySpecifierDimension.Unsized writes put (Token.symbol Symbol.left_bracket) refl a writes put (Token.symbol Symbol.right_bracket) refl b) (rw v refl) refl
 
     pub sized : r.kind ≡ 25 → (r.variant ≡ 0 → ⊥) → {room₂ room₃ : List ℕ} {p₂ p₃ : Pen} → p ≡ past rs p₀ → Wrote (bytes "[") room₀ p room₂ p₂
         → Shows (operand 17) expr s rs ns room₂ p₂ room₃ p₃ → Wrote (bytes "]") room₃ p₃ room₁ p₁ → Shows show_dimension dimension s rs ns room₀ p₀ room₁ p₁
     unfolding show_dimension spell symbol_text item_of dimension_of
     sized k v f a x b =
         of_parts (λ (x : Item). x.dimension) _ show_dimension 25 (omega arith) k f
-        (begin ArraySpecifierDimension.ExplicitlySized writes put (Token.symbol Symbol.left-bracket) refl a shows piece show_expr expr (plain rs ns x) writes put (Token.symbol Symbol.right-bracket) refl b)
+        (begin ArraySpecifierDimension.ExplicitlySized writes put (Token.symbol Symbol.left_bracket) refl a shows piece show_expr expr (plain rs ns x) writes put (Token.symbol Symbol.right_bracket) refl b)
         (rw (ne_eqb r.variant 0 v) refl) refl
 
     -- a layout's ids
@@ -260,15 +260,15 @@ module _ (rs ns : List ℕ) {s : Settings} where
         ∙ ap (λ (b : Bool). a_symbol y ++ apart (joins_under (unary_op_of v) e) spaces_where_needed (bare_if b (show_expr e))) (sign_at rs ns p₀.next p₂.next v most m same))
 
     module _ {room₂ : List ℕ} {p₂ : Pen} where
-      pub post_parts : (down : Bool) → Shows (operand 1) expr s rs ns room₀ p₀ room₂ p₂ → Ran s (a_symbol (cond down Symbol.dec-op Symbol.inc-op)) room₂ p₂ room₁ p₁
+      pub post_parts : (down : Bool) → Shows (operand 1) expr s rs ns room₀ p₀ room₂ p₂ → Ran s (a_symbol (cond down Symbol.dec_op Symbol.inc_op)) room₂ p₂ room₁ p₁
           → Shows show_expr (give (cond down Expr.PostDec Expr.PostInc) and expr) s rs ns room₀ p₀ room₁ p₁
       unfolding show_expr
       post_parts true a o =
           let e = (expr (from rs ns p₀.next)).tree in
-          so show_expr (begin Expr.PostDec shows piece (operand 1) expr a writes wrote o) (ap (λ (b : Bool). bare_if b (show_expr e) ++ a_symbol Symbol.dec-op) (below (precedence e) 2 (omega arith)))
+          so show_expr (begin Expr.PostDec shows piece (operand 1) expr a writes wrote o) (ap (λ (b : Bool). bare_if b (show_expr e) ++ a_symbol Symbol.dec_op) (below (precedence e) 2 (omega arith)))
       post_parts false a o =
           let e = (expr (from rs ns p₀.next)).tree in
-          so show_expr (begin Expr.PostInc shows piece (operand 1) expr a writes wrote o) (ap (λ (b : Bool). bare_if b (show_expr e) ++ a_symbol Symbol.inc-op) (below (precedence e) 2 (omega arith)))
+          so show_expr (begin Expr.PostInc shows piece (operand 1) expr a writes wrote o) (ap (λ (b : Bool). bare_if b (show_expr e) ++ a_symbol Symbol.inc_op) (below (precedence e) 2 (omega arith)))
 
       pub comma_parts : {room₃ : List ℕ} {p₃ : Pen} → Shows (operand 17) expr s rs ns room₀ p₀ room₂ p₂ → Ran s write_list_separator room₂ p₂ room₃ p₃ → Shows (operand 16) expr s rs ns room₃ p₃ room₁ p₁
           → Shows show_expr (give Expr.Comma and expr and expr) s rs ns room₀ p₀ room₁ p₁
@@ -310,8 +310,8 @@ module _ (rs ns : List ℕ) {s : Settings} where
       unfolding show_expr spell symbol_text
       index_parts {p₃ = p₃} a o b c =
           so show_expr
-          (begin Expr.Bracket shows piece (operand 2) expr a writes put (Token.symbol Symbol.left-bracket) refl o shows piece show_expr expr (plain rs ns b) writes put (Token.symbol Symbol.right-bracket) refl c)
-          (enclosed (operand 2 (expr (from rs ns p₀.next)).tree) (a_symbol Symbol.left-bracket) (show_expr (expr (from rs ns p₃.next)).tree) (a_symbol Symbol.right-bracket))
+          (begin Expr.Bracket shows piece (operand 2) expr a writes put (Token.symbol Symbol.left_bracket) refl o shows piece show_expr expr (plain rs ns b) writes put (Token.symbol Symbol.right_bracket) refl c)
+          (enclosed (operand 2 (expr (from rs ns p₀.next)).tree) (a_symbol Symbol.left_bracket) (show_expr (expr (from rs ns p₃.next)).tree) (a_symbol Symbol.right_bracket))
 
       pub dot_parts : (a b : ℕ) {room₃ : List ℕ} {p₃ : Pen} → Shows (operand 2) expr s rs ns room₀ p₀ room₂ p₂
           → ((names : List ℕ) → Ran s (apart (is_int (expr (from rs names p₀.next)).tree) spaces_where_needed (a_symbol Symbol.dot)) room₂ p₂ room₃ p₃)
@@ -342,9 +342,9 @@ module _ (rs ns : List ℕ) {s : Settings} where
       unfolding show_expr spell symbol_text
       call_parts n {p₃ = p₃} a o b c =
           so show_expr
-          (begin Expr.FunCall shows piece show_function_identifier callee a writes put (Token.symbol Symbol.left-paren) refl o
-          shows piece (λ es. show_exprs es true) (several n expr Exprs.no_exprs Exprs.exprs) b writes put (Token.symbol Symbol.right-paren) refl c)
-          (enclosed (show_function_identifier (callee (from rs ns p₀.next)).tree) (a_symbol Symbol.left-paren) (show_exprs (several n expr Exprs.no_exprs Exprs.exprs (from rs ns p₃.next)).tree true) (a_symbol Symbol.right-paren))
+          (begin Expr.FunCall shows piece show_function_identifier callee a writes put (Token.symbol Symbol.left_paren) refl o
+          shows piece (λ es. show_exprs es true) (several n expr Exprs.no_exprs Exprs.exprs) b writes put (Token.symbol Symbol.right_paren) refl c)
+          (enclosed (show_function_identifier (callee (from rs ns p₀.next)).tree) (a_symbol Symbol.left_paren) (show_exprs (several n expr Exprs.no_exprs Exprs.exprs (from rs ns p₃.next)).tree true) (a_symbol Symbol.right_paren))
 
       -- a separator or a space before an item
       pub item_behind : {A : Type 0} (show : A → List Command) (q : Reader A) {cs : List Command} → Ran s cs room₀ p₀ room₂ p₂ → Shows show q s rs ns room₂ p₂ room₁ p₁
@@ -367,8 +367,8 @@ module _ (rs ns : List ℕ) {s : Settings} where
 
         -- an operand, in brackets where it binds too weakly
         pub in_brackets : (most : ℕ) {k v q : ℕ} → k ≡ (record_at rs p₀.next).kind → v ≡ (record_at rs p₀.next).variant → q ≡ precedence_of k v
-            → Ran s (cond (ltb most q) (a_symbol Symbol.left-paren) []) room₀ p₀ room₂ p₂ → Shows show_expr expr s rs ns room₂ p₂ room₃ p₃
-            → Ran s (cond (ltb most q) (a_symbol Symbol.right-paren) []) room₃ p₃ room₁ p₁ → Shows (operand most) expr s rs ns room₀ p₀ room₁ p₁
+            → Ran s (cond (ltb most q) (a_symbol Symbol.left_paren) []) room₀ p₀ room₂ p₂ → Shows show_expr expr s rs ns room₂ p₂ room₃ p₃
+            → Ran s (cond (ltb most q) (a_symbol Symbol.right_paren) []) room₃ p₃ room₁ p₁ → Shows (operand most) expr s rs ns room₀ p₀ room₁ p₁
         in_brackets most {q = q} hk hv hq o a c =
             let i : p₀.next ≡ p₂.next = omega (arith, (wrote o).next) in
             reads (operand most) expr rs ns (expr (from rs ns p₂.next)) (ap (λ (k : ℕ). expr (from rs ns k)) i)
@@ -381,9 +381,9 @@ module _ (rs ns : List ℕ) {s : Settings} where
         layout_parts n w o a c =
             let is = (several n layout_id LayoutQualifier.no_ids LayoutQualifier.ids (from rs ns p₃.next)).tree in
             so show_type_qualifier_spec
-            (begin TypeQualifierSpec.Layout writes wrote w writes put (Token.symbol Symbol.left-paren) refl o shows piece (λ is. show_layout_ids is true) (several n layout_id LayoutQualifier.no_ids LayoutQualifier.ids) a
-            writes put (Token.symbol Symbol.right-paren) refl c)
-            (enclosed (a_word Word.layout) (a_symbol Symbol.left-paren) (show_layout_ids is true) (a_symbol Symbol.right-paren))
+            (begin TypeQualifierSpec.Layout writes wrote w writes put (Token.symbol Symbol.left_paren) refl o shows piece (λ is. show_layout_ids is true) (several n layout_id LayoutQualifier.no_ids LayoutQualifier.ids) a
+            writes put (Token.symbol Symbol.right_paren) refl c)
+            (enclosed (a_word Word.layout) (a_symbol Symbol.left_paren) (show_layout_ids is true) (a_symbol Symbol.right_paren))
 
         pub subr_parts : (n : ℕ) → 0 < n → {room₄ : List ℕ} {p₄ : Pen} → Ran s (a_word (qualifier_word 17)) room₀ p₀ room₂ p₂ → Wrote (bytes "(") room₂ p₂ room₃ p₃
             → Shows (λ ts. show_type_specifiers ts true) (several n type TypeSpecifiers.no_types TypeSpecifiers.types) s rs ns room₃ p₃ room₄ p₄ → Wrote (bytes ")") room₄ p₄ room₁ p₁
@@ -392,10 +392,10 @@ module _ (rs ns : List ℕ) {s : Settings} where
         subr_parts n h w o a c =
             let ts = (several n type TypeSpecifiers.no_types TypeSpecifiers.types (from rs ns p₃.next)).tree in
             so show_type_qualifier_spec
-            (begin TypeQualifierSpec.Subroutine writes wrote w writes put (Token.symbol Symbol.left-paren) refl o shows piece (λ ts. show_type_specifiers ts true) (several n type TypeSpecifiers.no_types TypeSpecifiers.types) a
-            writes put (Token.symbol Symbol.right-paren) refl c)
-            (enclosed (a_word Word.subroutine) (a_symbol Symbol.left-paren) (show_type_specifiers ts true) (a_symbol Symbol.right-paren)
-            ∙ ap (λ (b : Bool). a_word Word.subroutine ++ cond b [] (a_symbol Symbol.left-paren ++ show_type_specifiers ts true ++ a_symbol Symbol.right-paren)) (sym (some_types n h (from rs ns p₃.next))))
+            (begin TypeQualifierSpec.Subroutine writes wrote w writes put (Token.symbol Symbol.left_paren) refl o shows piece (λ ts. show_type_specifiers ts true) (several n type TypeSpecifiers.no_types TypeSpecifiers.types) a
+            writes put (Token.symbol Symbol.right_paren) refl c)
+            (enclosed (a_word Word.subroutine) (a_symbol Symbol.left_paren) (show_type_specifiers ts true) (a_symbol Symbol.right_paren)
+            ∙ ap (λ (b : Bool). a_word Word.subroutine ++ cond b [] (a_symbol Symbol.left_paren ++ show_type_specifiers ts true ++ a_symbol Symbol.right_paren)) (sym (some_types n h (from rs ns p₃.next))))
 
         pub strukt_parts : (r : Record) {room₄ room₅ room₆ : List ℕ} {p₄ p₅ p₆ : Pen} → Wrote (bytes "struct") room₀ p₀ room₂ p₂ → Wrote (bytes " ") room₂ p₂ room₃ p₃
             → Ran s (optional show_identifier (cond (eqb r.variant 1) (some (part ns r.a r.b)) none)) room₃ p₃ room₄ p₄ → Ran s enter_block room₄ p₄ room₅ p₅

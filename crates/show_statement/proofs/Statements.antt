@@ -169,7 +169,7 @@ module _ (rs ns : List ℕ) {s : Settings} where
         unfolding show_statement spell word_text symbol_text
         switch_parts n w o a c b d x =
             so (show_behind s)
-            (begin Statement.Switch writes put (Token.word Word.switch) refl w writes wrote o shows (piece show_expr expr a) writes put (Token.symbol Symbol.right-paren) refl c writes wrote b
+            (begin Statement.Switch writes put (Token.word Word.switch) refl w writes wrote o shows (piece show_expr expr a) writes put (Token.symbol Symbol.right_paren) refl c writes wrote b
             shows (piece (show_statements (collapse s)) (statements n) d) writes wrote x) refl
 
         pub for_parts : (v : ℕ) → Wrote (bytes "for") room₀ p₀ room₂ p₂ → Ran s write_statement_opening_parenthesis room₂ p₂ room₃ p₃ → Shows show_for_init_statement for_init s rs ns room₃ p₃ room₄ p₄
@@ -196,4 +196,4 @@ module _ (rs ns : List ℕ) {s : Settings} where
         do_while_parts w b a c d o x e y =
             so (show_behind s)
             (begin Statement.DoWhile writes put (Token.word Word.«do») refl w writes space b shows (piece (show_statement (collapse s)) statement a) writes space c writes put (Token.word Word.while) refl d writes wrote o
-            shows (piece show_expr expr x) writes put (Token.symbol Symbol.right-paren) refl e writes wrote y) refl
+            shows (piece show_expr expr x) writes put (Token.symbol Symbol.right_paren) refl e writes wrote y) refl

@@ -37,7 +37,7 @@ symbol y = token (Token.symbol y)
 -- (02, #101) come move_to_empty_line and exit_external_declaration.
 
 abbrev pub enter_block_inner : List Command
-enter_block_inner = symbol Symbol.left-brace ∷ indent ∷ newline_if newline_after_open_block ∷ []
+enter_block_inner = symbol Symbol.left_brace ∷ indent ∷ newline_if newline_after_open_block ∷ []
 
 -- a function's body has the space, another compound statement has none
 abbrev pub enter_compound_statement_block : List Command
@@ -50,7 +50,7 @@ abbrev pub enter_block : List Command
 enter_block = space_if space_before_open_block ∷ enter_block_inner
 
 abbrev pub exit_block : List Command
-exit_block = dedent ∷ newline_if newline_before_close_block ∷ flush_line ∷ symbol Symbol.right-brace ∷ newline_if newline_after_close_block ∷ []
+exit_block = dedent ∷ newline_if newline_before_close_block ∷ flush_line ∷ symbol Symbol.right_brace ∷ newline_if newline_after_close_block ∷ []
 
 abbrev pub enter_collapsed_compound_statement : List Command
 enter_collapsed_compound_statement = indent ∷ newline_if newline_before_collapsed_statement ∷ []
@@ -59,10 +59,10 @@ abbrev pub exit_collapsed_compound_statement : List Command
 exit_collapsed_compound_statement = dedent ∷ newline_if newline_after_collapsed_statement ∷ []
 
 abbrev pub enter_initializer_list : List Command
-enter_initializer_list = symbol Symbol.left-brace ∷ space_if spaces_surrounding_initializer_list_expressions ∷ []
+enter_initializer_list = symbol Symbol.left_brace ∷ space_if spaces_surrounding_initializer_list_expressions ∷ []
 
 abbrev pub end_initializer_list : List Command
-end_initializer_list = space_if spaces_surrounding_initializer_list_expressions ∷ symbol Symbol.right-brace ∷ []
+end_initializer_list = space_if spaces_surrounding_initializer_list_expressions ∷ symbol Symbol.right_brace ∷ []
 
 abbrev pub enter_case_label : List Command
 enter_case_label = symbol Symbol.colon ∷ whitespace case_label_terminator ∷ []
@@ -100,7 +100,7 @@ abbrev pub write_function_definition_terminator : List Command
 write_function_definition_terminator = whitespace function_definition_terminator ∷ []
 
 abbrev pub write_statement_opening_parenthesis : List Command
-write_statement_opening_parenthesis = space_if spaces_surrounding_statement_parentheses ∷ symbol Symbol.left-paren ∷ []
+write_statement_opening_parenthesis = space_if spaces_surrounding_statement_parentheses ∷ symbol Symbol.left_paren ∷ []
 
 abbrev pub write_statement_closing_parenthesis : List Command
-write_statement_closing_parenthesis = symbol Symbol.right-paren ∷ space_if spaces_surrounding_statement_parentheses ∷ []
+write_statement_closing_parenthesis = symbol Symbol.right_paren ∷ space_if spaces_surrounding_statement_parentheses ∷ []

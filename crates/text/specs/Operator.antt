@@ -27,20 +27,20 @@ comma_precedence = 17
 
 -- each binary operator, in the order of show_binary_op: its symbol, and how strongly it binds
 unfoldable pub binary_op : BinaryOp → Symbol × ℕ
-binary_op BinaryOp.Or = (Symbol.or-op, 14)
-binary_op BinaryOp.Xor = (Symbol.xor-op, 13)
-binary_op BinaryOp.And = (Symbol.and-op, 12)
-binary_op BinaryOp.BitOr = (Symbol.vertical-bar, 11)
+binary_op BinaryOp.Or = (Symbol.or_op, 14)
+binary_op BinaryOp.Xor = (Symbol.xor_op, 13)
+binary_op BinaryOp.And = (Symbol.and_op, 12)
+binary_op BinaryOp.BitOr = (Symbol.vertical_bar, 11)
 binary_op BinaryOp.BitXor = (Symbol.caret, 10)
 binary_op BinaryOp.BitAnd = (Symbol.ampersand, 9)
-binary_op BinaryOp.Equal = (Symbol.eq-op, 8)
-binary_op BinaryOp.NonEqual = (Symbol.ne-op, 8)
-binary_op BinaryOp.Lt = (Symbol.left-angle, 7)
-binary_op BinaryOp.Gt = (Symbol.right-angle, 7)
-binary_op BinaryOp.Lte = (Symbol.le-op, 7)
-binary_op BinaryOp.Gte = (Symbol.ge-op, 7)
-binary_op BinaryOp.LShift = (Symbol.left-op, 6)
-binary_op BinaryOp.RShift = (Symbol.right-op, 6)
+binary_op BinaryOp.Equal = (Symbol.eq_op, 8)
+binary_op BinaryOp.NonEqual = (Symbol.ne_op, 8)
+binary_op BinaryOp.Lt = (Symbol.left_angle, 7)
+binary_op BinaryOp.Gt = (Symbol.right_angle, 7)
+binary_op BinaryOp.Lte = (Symbol.le_op, 7)
+binary_op BinaryOp.Gte = (Symbol.ge_op, 7)
+binary_op BinaryOp.LShift = (Symbol.left_op, 6)
+binary_op BinaryOp.RShift = (Symbol.right_op, 6)
 binary_op BinaryOp.Add = (Symbol.plus, 5)
 binary_op BinaryOp.Sub = (Symbol.dash, 5)
 binary_op BinaryOp.Mult = (Symbol.star, 4)
@@ -75,8 +75,8 @@ precedence (Expr.Comma a b) = comma_precedence
 -- show_unary_op, show_assignment_op
 
 unfoldable pub unary_symbol : UnaryOp → Symbol
-unary_symbol UnaryOp.Inc = Symbol.inc-op
-unary_symbol UnaryOp.Dec = Symbol.dec-op
+unary_symbol UnaryOp.Inc = Symbol.inc_op
+unary_symbol UnaryOp.Dec = Symbol.dec_op
 unary_symbol UnaryOp.Add = Symbol.plus
 unary_symbol UnaryOp.Minus = Symbol.dash
 unary_symbol UnaryOp.Not = Symbol.bang
@@ -84,16 +84,16 @@ unary_symbol UnaryOp.Complement = Symbol.tilde
 
 unfoldable pub assignment_symbol : AssignmentOp → Symbol
 assignment_symbol AssignmentOp.Equal = Symbol.equal
-assignment_symbol AssignmentOp.Mult = Symbol.mul-assign
-assignment_symbol AssignmentOp.Div = Symbol.div-assign
-assignment_symbol AssignmentOp.Mod = Symbol.mod-assign
-assignment_symbol AssignmentOp.Add = Symbol.add-assign
-assignment_symbol AssignmentOp.Sub = Symbol.sub-assign
-assignment_symbol AssignmentOp.LShift = Symbol.left-assign
-assignment_symbol AssignmentOp.RShift = Symbol.right-assign
-assignment_symbol AssignmentOp.And = Symbol.and-assign
-assignment_symbol AssignmentOp.Xor = Symbol.xor-assign
-assignment_symbol AssignmentOp.Or = Symbol.or-assign
+assignment_symbol AssignmentOp.Mult = Symbol.mul_assign
+assignment_symbol AssignmentOp.Div = Symbol.div_assign
+assignment_symbol AssignmentOp.Mod = Symbol.mod_assign
+assignment_symbol AssignmentOp.Add = Symbol.add_assign
+assignment_symbol AssignmentOp.Sub = Symbol.sub_assign
+assignment_symbol AssignmentOp.LShift = Symbol.left_assign
+assignment_symbol AssignmentOp.RShift = Symbol.right_assign
+assignment_symbol AssignmentOp.And = Symbol.and_assign
+assignment_symbol AssignmentOp.Xor = Symbol.xor_assign
+assignment_symbol AssignmentOp.Or = Symbol.or_assign
 
 -- two signs that would read as one symbol
 abbrev pub reads_as_one : List ℕ → Bool

@@ -33,10 +33,10 @@ show_identifier i = a_token (Token.name i)
 
 -- (..) and [..]
 abbrev pub parenthesized : List Command → List Command
-parenthesized cs = a_symbol Symbol.left-paren ++ cs ++ a_symbol Symbol.right-paren
+parenthesized cs = a_symbol Symbol.left_paren ++ cs ++ a_symbol Symbol.right_paren
 
 abbrev pub in_square_brackets : List Command → List Command
-in_square_brackets cs = a_symbol Symbol.left-bracket ++ cs ++ a_symbol Symbol.right-bracket
+in_square_brackets cs = a_symbol Symbol.left_bracket ++ cs ++ a_symbol Symbol.right_bracket
 
 -- an operand: where it is bare it stands as it is, elsewhere in parentheses
 abbrev pub bare_if : Bool → List Command → List Command
@@ -173,8 +173,8 @@ unfoldable mutual
   show_expr (Expr.Bracket e a) = bare_if (leb (precedence e) postfix_precedence) (show_expr e) ++ in_square_brackets (show_expr a)
   show_expr (Expr.FunCall f es) = show_function_identifier f ++ parenthesized (show_exprs es true)
   show_expr (Expr.Dot i e) = bare_if (leb (precedence e) postfix_precedence) (show_expr e) ++ apart (is_int e) spaces_where_needed (a_symbol Symbol.dot) ++ show_identifier i
-  show_expr (Expr.PostInc e) = bare_if (ltb (precedence e) postfix_precedence) (show_expr e) ++ a_symbol Symbol.inc-op
-  show_expr (Expr.PostDec e) = bare_if (ltb (precedence e) postfix_precedence) (show_expr e) ++ a_symbol Symbol.dec-op
+  show_expr (Expr.PostInc e) = bare_if (ltb (precedence e) postfix_precedence) (show_expr e) ++ a_symbol Symbol.inc_op
+  show_expr (Expr.PostDec e) = bare_if (ltb (precedence e) postfix_precedence) (show_expr e) ++ a_symbol Symbol.dec_op
   show_expr (Expr.Comma a b) = bare_if (leb (precedence a) comma_precedence) (show_expr a) ++ write_list_separator ++ bare_if (ltb (precedence b) comma_precedence) (show_expr b)
 
   pub show_exprs : Exprs → (first : Bool) → List Command
@@ -306,13 +306,13 @@ module _ (collapse : Bool) where
     show_statement (Statement.IfElse e s t) =
         flush_line ∷ a_word Word.if ++ write_statement_opening_parenthesis ++ show_expr e ++ write_statement_closing_parenthesis ++ show_statement s ++ write_else ++ (consume_newline ∷ show_statement t)
     show_statement (Statement.Switch e ss) =
-        flush_line ∷ a_word Word.switch ++ write_statement_opening_parenthesis ++ show_expr e ++ a_symbol Symbol.right-paren ++ enter_block ++ show_statements ss ++ exit_block
+        flush_line ∷ a_word Word.switch ++ write_statement_opening_parenthesis ++ show_expr e ++ a_symbol Symbol.right_paren ++ enter_block ++ show_statements ss ++ exit_block
     show_statement Statement.Default = flush_line ∷ a_word Word.default ++ enter_case_label
     show_statement (Statement.Case e) = flush_line ∷ a_word Word.case ++ a_space ++ show_expr e ++ enter_case_label
     show_statement (Statement.While c s) =
         flush_line ∷ a_word Word.while ++ write_statement_opening_parenthesis ++ show_condition c ++ write_statement_closing_parenthesis ++ show_statement s
     show_statement (Statement.DoWhile s e) =
-        flush_line ∷ a_word Word.«do» ++ a_space ++ show_statement s ++ a_space ++ a_word Word.while ++ write_statement_opening_parenthesis ++ show_expr e ++ a_symbol Symbol.right-paren ++ write_statement_terminator
+        flush_line ∷ a_word Word.«do» ++ a_space ++ show_statement s ++ a_space ++ a_word Word.while ++ write_statement_opening_parenthesis ++ show_expr e ++ a_symbol Symbol.right_paren ++ write_statement_terminator
     show_statement (Statement.For i c e s) =
         flush_line ∷ a_word Word.for ++ write_statement_opening_parenthesis ++ show_for_init_statement i ++ (flush_space ∷ optional show_condition c) ++ write_for_statement_separator ++ optional show_expr e ++ write_statement_closing_parenthesis ++ show_statement s
     show_statement (Statement.OfJump j) = flush_line ∷ show_jump_statement j

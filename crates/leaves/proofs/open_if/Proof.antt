@@ -15,7 +15,7 @@ same_length c = search rules
 
 returns : tie.Need-returns
 unfolding spell symbol_text
-returns c = λ s. rw c.before.before.before.before.if1.true (by_token (Token.symbol Symbol.left-paren) refl c.before.before.write-char.ensures)
+returns c = λ s. rw c.before.before.before.before.if1.true (by_token (Token.symbol Symbol.left_paren) refl c.before.before.write-char.ensures)
 
 returns_2 : tie.Need-returns-2
 returns_2 c = λ s. rw c.if1.false nothing_ran

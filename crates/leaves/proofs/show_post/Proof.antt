@@ -18,7 +18,7 @@ same_length c = search rules
 
 returns : tie.Need-returns
 unfolding spell symbol_text
-returns c = λ s. rw c.before.before.before.before.before.if1.true (by_token (Token.symbol Symbol.dec-op) refl c.before.before.write-str.ensures)
+returns c = λ s. rw c.before.before.before.before.before.if1.true (by_token (Token.symbol Symbol.dec_op) refl c.before.before.write-str.ensures)
 
 slice_aggregate_write_str_2 : tie.Need-slice-aggregate-write-str-2
 slice_aggregate_write_str_2 c = search rules
@@ -31,7 +31,7 @@ same_length_2 c = search rules
 
 returns_2 : tie.Need-returns-2
 unfolding spell symbol_text
-returns_2 c = λ s. rw c.before.before.before.before.before.if1.false (by_token (Token.symbol Symbol.inc-op) refl c.before.before.write-str2.ensures)
+returns_2 c = λ s. rw c.before.before.before.before.before.if1.false (by_token (Token.symbol Symbol.inc_op) refl c.before.before.write-str2.ensures)
 
 pub show_post_spec : {M : Type 1} → statement M
 show_post_spec =

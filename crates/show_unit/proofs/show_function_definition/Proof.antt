@@ -22,7 +22,7 @@ write_function_definition_terminator_requires : tie.Need-write-function-definiti
 write_function_definition_terminator_requires c κs = search rules
 
 returns : tie.Need-returns
-returns c = function_parts c.before.before.before.before.before.before.before.before.before.before.before.before.before.before.before.before.before.before.before.before.args.records.now c.before.before.before.before.before.before.before.before.before.before.before.before.before.before.before.before.before.before.before.before.args.names.now c.before.before.before.before.before.before.before.before.before.before.before.before.before.before.before.before.before.before.before.before.args.s.collapse_single_item_compound_statements c.before.before.before.before.before.before.before.before.before.before.before.before.before.before.before.show_function_prototype.ensures (by_enter_function_definition_statement c.before.before.before.before.before.before.before.before.before.before.before.before.enter-function-definition-statement.ensures) c.before.before.before.before.before.before.before.before.before.before.show-body.ensures c.before.before.before.before.before.before.flush-line.ensures c.before.before.write_function_definition_terminator.ensures
+returns c = function_parts c.before.before.before.before.before.before.before.before.before.before.before.before.before.before.before.before.before.before.before.before.args.records.now c.before.before.before.before.before.before.before.before.before.before.before.before.before.before.before.before.before.before.before.before.args.names.now c.before.before.before.before.before.before.before.before.before.before.before.before.before.before.before.before.before.before.before.before.args.s.collapse_single_item_compound_statements c.before.before.before.before.before.before.before.before.before.before.before.before.before.before.before.show_function_prototype.ensures (by_enter_function_definition_statement c.before.before.before.before.before.before.before.before.before.before.before.before.enter_function_definition_statement.ensures) c.before.before.before.before.before.before.before.before.before.before.show-body.ensures c.before.before.before.before.before.before.flush_line.ensures c.before.before.write_function_definition_terminator.ensures
 
 same_length : tie.Need-same-length
 same_length c = shown_length (returns c)

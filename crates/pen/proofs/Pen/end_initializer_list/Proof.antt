@@ -19,7 +19,7 @@ same_length c = search rules
 
 returns : tie.Need-returns
 unfolding flag spell symbol_text
-returns c = by_space_if Flag.spaces-surrounding-initializer-list-expressions c.before.before.before.before.before.before.write-space-if.ensures then by_token (Token.symbol Symbol.right-brace) refl c.before.before.write-char.ensures
+returns c = by_space_if Flag.spaces_surrounding_initializer_list_expressions c.before.before.before.before.before.before.write-space-if.ensures then by_token (Token.symbol Symbol.right_brace) refl c.before.before.write-char.ensures
 
 pub end_initializer_list_spec : {M : Type 1} → statement M
 end_initializer_list_spec =

@@ -16,7 +16,7 @@ same_length c = search rules
 
 returns : tie.Need-returns
 unfolding flag
-returns c = by_space_if Flag.space-before-open-block c.before.before.before.before.before.before.write-space-if.ensures then c.before.before.enter_block_inner.ensures
+returns c = by_space_if Flag.space_before_open_block c.before.before.before.before.before.before.write-space-if.ensures then c.before.before.enter_block_inner.ensures
 
 pub enter_block_spec : {M : Type 1} → statement M
 enter_block_spec =

@@ -22,7 +22,7 @@ same_length c = search rules
 
 returns : tie.Need-returns
 unfolding flag spell symbol_text
-returns c = by_token (Token.symbol Symbol.left-brace) refl c.before.before.before.before.write-char.ensures then by_indent c.before.indent.ensures then by_newline_if Flag.newline-after-open-block c.new_line.ensures
+returns c = by_token (Token.symbol Symbol.left_brace) refl c.before.before.before.before.write-char.ensures then by_indent c.before.indent.ensures then by_newline_if Flag.newline_after_open_block c.new_line.ensures
 
 pub enter_block_inner_spec : {M : Type 1} → statement M
 enter_block_inner_spec =

@@ -19,7 +19,7 @@ same_length c = search rules
 
 returns : tie.Need-returns
 unfolding gap spell symbol_text
-returns c = by_token (Token.symbol Symbol.colon) refl c.before.before.before.before.before.before.write-char.ensures then by_whitespace Gap.case-label-terminator c.before.before.write-whitespace.ensures
+returns c = by_token (Token.symbol Symbol.colon) refl c.before.before.before.before.before.before.write-char.ensures then by_whitespace Gap.case_label_terminator c.before.before.write-whitespace.ensures
 
 pub enter_case_label_spec : {M : Type 1} → statement M
 enter_case_label_spec =

@@ -13,7 +13,7 @@ new_line_requires c κs = search rules
 
 returns : tie.Need-returns
 unfolding flag
-returns c = everywhere (λ room. by_indent c.before.indent.ensures then by_newline_if Flag.newline-before-collapsed-statement c.new_line.ensures)
+returns c = everywhere (λ room. by_indent c.before.indent.ensures then by_newline_if Flag.newline_before_collapsed_statement c.new_line.ensures)
 
 pub enter_collapsed_compound_statement_spec : {M : Type 1} → statement M
 enter_collapsed_compound_statement_spec =

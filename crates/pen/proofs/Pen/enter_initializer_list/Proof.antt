@@ -19,7 +19,7 @@ same_length c = search rules
 
 returns : tie.Need-returns
 unfolding flag spell symbol_text
-returns c = by_token (Token.symbol Symbol.left-brace) refl c.before.before.before.before.before.before.write-char.ensures then by_space_if Flag.spaces-surrounding-initializer-list-expressions c.before.before.write-space-if.ensures
+returns c = by_token (Token.symbol Symbol.left_brace) refl c.before.before.before.before.before.before.write-char.ensures then by_space_if Flag.spaces_surrounding_initializer_list_expressions c.before.before.write-space-if.ensures
 
 pub enter_initializer_list_spec : {M : Type 1} → statement M
 enter_initializer_list_spec =

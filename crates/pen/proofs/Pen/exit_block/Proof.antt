@@ -29,9 +29,9 @@ same_length c = search rules
 returns : tie.Need-returns
 unfolding flag spell symbol_text
 returns c =
-    by_dedent c.before.before.before.before.before.before.before.before.before.before.dedent.ensures then by_newline_if Flag.newline-before-close-block c.before.before.before.before.before.before.before.before.before.new_line.ensures
-    then c.before.before.before.before.before.before.before.flush-line.ensures then by_token (Token.symbol Symbol.right-brace) refl c.before.before.before.write-char.ensures
-    then by_newline_if Flag.newline-after-close-block c.new-line2.ensures
+    by_dedent c.before.before.before.before.before.before.before.before.before.before.dedent.ensures then by_newline_if Flag.newline_before_close_block c.before.before.before.before.before.before.before.before.before.new_line.ensures
+    then c.before.before.before.before.before.before.before.flush_line.ensures then by_token (Token.symbol Symbol.right_brace) refl c.before.before.before.write-char.ensures
+    then by_newline_if Flag.newline_after_close_block c.new-line2.ensures
 
 pub exit_block_spec : {M : Type 1} → statement M
 exit_block_spec =

@@ -13,7 +13,7 @@ new_line_requires c κs = search rules
 
 returns : tie.Need-returns
 unfolding flag
-returns c = everywhere (λ room. by_dedent c.before.dedent.ensures then by_newline_if Flag.newline-after-collapsed-statement c.new_line.ensures)
+returns c = everywhere (λ room. by_dedent c.before.dedent.ensures then by_newline_if Flag.newline_after_collapsed_statement c.new_line.ensures)
 
 pub exit_collapsed_compound_statement_spec : {M : Type 1} → statement M
 exit_collapsed_compound_statement_spec =

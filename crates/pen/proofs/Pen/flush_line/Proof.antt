@@ -14,7 +14,7 @@ same_length : tie.Need-same-length
 same_length c = search rules
 
 returns : tie.Need-returns
-returns c = by_flush_line c.before.before.before.before.before.if1.true c.before.before.before.write-line.ensures c.consume-newline.ensures
+returns c = by_flush_line c.before.before.before.before.before.if1.true c.before.before.before.write_line.ensures c.consume_newline.ensures
 
 returns_2 : tie.Need-returns-2
 returns_2 c = no_line c.if1.false

@@ -14,7 +14,7 @@ same_length : tie.Need-same-length
 same_length c = search rules
 
 returns : tie.Need-returns
-returns c = λ s. by_flush_space c.before.before.before.before.before.if1.true c.before.before.before.write-char.ensures c.consume-newline.ensures
+returns c = λ s. by_flush_space c.before.before.before.before.before.if1.true c.before.before.before.write-char.ensures c.consume_newline.ensures
 
 returns_2 : tie.Need-returns-2
 returns_2 c = λ s. no_space c.if1.false

@@ -21,7 +21,7 @@ same_length c = search rules
 
 returns : tie.Need-returns
 unfolding flag spell
-returns c = by_space_if Flag.spaces-around-binary-ops c.before.before.before.before.before.before.before.before.before.before.write-space-if.ensures then by_token (Token.name c.before.before.before.before.before.before.before.before.before.before.before.before.before.before.args.op.now) refl c.before.before.before.before.before.before.write-str.ensures then by_space_if Flag.spaces-around-binary-ops c.before.before.write-space-if2.ensures
+returns c = by_space_if Flag.spaces_around_binary_ops c.before.before.before.before.before.before.before.before.before.before.write-space-if.ensures then by_token (Token.name c.before.before.before.before.before.before.before.before.before.before.before.before.before.before.args.op.now) refl c.before.before.before.before.before.before.write-str.ensures then by_space_if Flag.spaces_around_binary_ops c.before.before.write-space-if2.ensures
 
 pub write_binary_op_spec : {M : Type 1} → statement M
 write_binary_op_spec =

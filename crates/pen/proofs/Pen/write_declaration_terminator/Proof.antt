@@ -19,7 +19,7 @@ same_length c = search rules
 
 returns : tie.Need-returns
 unfolding gap spell symbol_text
-returns c = by_token (Token.symbol Symbol.semicolon) refl c.before.before.before.before.before.before.write-char.ensures then by_whitespace Gap.declaration-terminator c.before.before.write-whitespace.ensures
+returns c = by_token (Token.symbol Symbol.semicolon) refl c.before.before.before.before.before.before.write-char.ensures then by_whitespace Gap.declaration_terminator c.before.before.write-whitespace.ensures
 
 pub write_declaration_terminator_spec : {M : Type 1} → statement M
 write_declaration_terminator_spec =

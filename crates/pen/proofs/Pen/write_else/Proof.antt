@@ -25,7 +25,7 @@ same_length c = search rules
 
 returns : tie.Need-returns
 unfolding flag spell word_text
-returns c = by_space_if Flag.space-before-else c.before.before.before.before.before.before.before.before.before.before.before.write-space-if.ensures then by_token (Token.word Word.else) refl c.before.before.before.before.before.before.write-str.ensures then by_space c.before.before.write-char.ensures
+returns c = by_space_if Flag.space_before_else c.before.before.before.before.before.before.before.before.before.before.before.write-space-if.ensures then by_token (Token.word Word.else) refl c.before.before.before.before.before.before.write-str.ensures then by_space c.before.before.write-char.ensures
 
 pub write_else_spec : {M : Type 1} → statement M
 write_else_spec =

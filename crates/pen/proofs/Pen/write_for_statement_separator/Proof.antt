@@ -19,7 +19,7 @@ same_length c = search rules
 
 returns : tie.Need-returns
 unfolding flag spell symbol_text
-returns c = by_token (Token.symbol Symbol.semicolon) refl c.before.before.before.before.before.before.write-char.ensures then by_space_if Flag.space-after-for-statement-separator c.before.before.write-space-if.ensures
+returns c = by_token (Token.symbol Symbol.semicolon) refl c.before.before.before.before.before.before.write-char.ensures then by_space_if Flag.space_after_for_statement_separator c.before.before.write-space-if.ensures
 
 pub write_for_statement_separator_spec : {M : Type 1} → statement M
 write_for_statement_separator_spec =

@@ -13,7 +13,7 @@ same_length c = search rules
 
 returns : tie.Need-returns
 unfolding gap
-returns c = by_whitespace Gap.function-definition-terminator c.before.before.write-whitespace.ensures
+returns c = by_whitespace Gap.function_definition_terminator c.before.before.write-whitespace.ensures
 
 pub write_function_definition_terminator_spec : {M : Type 1} → statement M
 write_function_definition_terminator_spec =

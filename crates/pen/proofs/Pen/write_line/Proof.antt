@@ -14,7 +14,7 @@ same_length : tie.Need-same-length
 same_length c = search rules
 
 returns : tie.Need-returns
-returns c = by_write_line c.before.before.before.before.before.before.write-char.ensures c.before.before.write-indent.ensures
+returns c = by_write_line c.before.before.before.before.before.before.write-char.ensures c.before.before.write_indent.ensures
 
 pub write_line_spec : {M : Type 1} → statement M
 write_line_spec =

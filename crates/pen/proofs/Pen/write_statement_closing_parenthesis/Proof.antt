@@ -19,7 +19,7 @@ same_length c = search rules
 
 returns : tie.Need-returns
 unfolding flag spell symbol_text
-returns c = by_token (Token.symbol Symbol.right-paren) refl c.before.before.before.before.before.before.write-char.ensures then by_space_if Flag.spaces-surrounding-statement-parentheses c.before.before.write-space-if.ensures
+returns c = by_token (Token.symbol Symbol.right_paren) refl c.before.before.before.before.before.before.write-char.ensures then by_space_if Flag.spaces_surrounding_statement_parentheses c.before.before.write-space-if.ensures
 
 pub write_statement_closing_parenthesis_spec : {M : Type 1} → statement M
 write_statement_closing_parenthesis_spec =

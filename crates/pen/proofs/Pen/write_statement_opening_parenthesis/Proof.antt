@@ -19,7 +19,7 @@ same_length c = search rules
 
 returns : tie.Need-returns
 unfolding flag spell symbol_text
-returns c = by_space_if Flag.spaces-surrounding-statement-parentheses c.before.before.before.before.before.before.write-space-if.ensures then by_token (Token.symbol Symbol.left-paren) refl c.before.before.write-char.ensures
+returns c = by_space_if Flag.spaces_surrounding_statement_parentheses c.before.before.before.before.before.before.write-space-if.ensures then by_token (Token.symbol Symbol.left_paren) refl c.before.before.write-char.ensures
 
 pub write_statement_opening_parenthesis_spec : {M : Type 1} → statement M
 write_statement_opening_parenthesis_spec =

@@ -20,7 +20,7 @@ exit_statements_requires : tie.Need-exit-statements-requires
 exit_statements_requires c κs = search rules
 
 returns : tie.Need-returns
-returns c = compound_parts c.before.before.before.before.before.before.before.before.before.before.before.before.before.before.before.before.args.records.now c.before.before.before.before.before.before.before.before.before.before.before.before.before.before.before.before.args.names.now {s = c.before.before.before.before.before.before.before.before.before.before.before.before.before.before.before.before.args.s} false true c.before.before.before.before.before.before.before.before.before.before.before.before.before.before.before.before.args.n refl c.before.before.before.before.before.before.before.before.before.before.before.enter-statements.ensures c.before.before.before.before.before.before.before.before.consume-function-definition-statement.ensures c.before.before.before.before.before.before.show_statements.ensures c.before.before.exit-statements.ensures
+returns c = compound_parts c.before.before.before.before.before.before.before.before.before.before.before.before.before.before.before.before.args.records.now c.before.before.before.before.before.before.before.before.before.before.before.before.before.before.before.before.args.names.now {s = c.before.before.before.before.before.before.before.before.before.before.before.before.before.before.before.before.args.s} false true c.before.before.before.before.before.before.before.before.before.before.before.before.before.before.before.before.args.n refl c.before.before.before.before.before.before.before.before.before.before.before.enter-statements.ensures c.before.before.before.before.before.before.before.before.consume_function_definition_statement.ensures c.before.before.before.before.before.before.show_statements.ensures c.before.before.exit-statements.ensures
 
 same_length : tie.Need-same-length
 same_length c = shown_length (returns c)

@@ -30,7 +30,7 @@ pub flush_line_requires : (t : ℕ) → fields_lts.Need-flush-line-requires (cal
 flush_line_requires t c κs = search rules
 
 pub field_requires : (t : ℕ) → fields_lts.Need-field-requires (calls t) (fields_at t) fields.Post Inv-loop μ-loop
-field_requires t c κs = (omega (arith, c.before.before.before.before.before.before.before.before.before.before.requires.0, c.before.before.before.before.before.before.loop.invariant.ahead, (wrote c.before.before.before.flush-line.ensures).next), c.before.before.before.before.before.before.before.before.before.before.requires.1)
+field_requires t c κs = (omega (arith, c.before.before.before.before.before.before.before.before.before.before.requires.0, c.before.before.before.before.before.before.loop.invariant.ahead, (wrote c.before.before.before.flush_line.ensures).next), c.before.before.before.before.before.before.before.before.before.before.requires.1)
 
 pub write_struct_field_separator_requires : (t : ℕ) → fields_lts.Need-write-struct-field-separator-requires (calls t) (fields_at t) fields.Post Inv-loop μ-loop
 write_struct_field_separator_requires t c κs = search rules
@@ -42,7 +42,7 @@ pub loop_less : (t : ℕ) → fields_lts.Need-loop-smaller (calls t) (fields_at 
 loop_less t c = search rules
 
 pub loop_again : (t : ℕ) → fields_lts.Need-loop-preserved (calls t) (fields_at t) fields.Post Inv-loop μ-loop
-loop_again t c = alike Lists.fields c.before.before.before.before.before.before.before.before.before.before.before.before.before.before.before.before.before.args.s c.before.before.before.before.before.before.before.before.before.before.before.before.before.before.before.before.before.args.records.now c.before.before.before.before.before.before.before.before.before.before.before.before.before.before.before.before.before.args.names.now (λ f xs. refl) (turn Lists.fields c.before.before.before.before.before.before.before.before.before.before.before.before.before.before.before.before.before.args.s c.before.before.before.before.before.before.before.before.before.before.before.before.before.before.before.before.before.args.records.now c.before.before.before.before.before.before.before.before.before.before.before.before.before.before.before.before.before.args.names.now c.before.before.before.before.before.before.before.before.before.before.before.before.before.loop.invariant c.before.before.before.before.before.before.before.before.before.before.before.before.loop-test.true (Printers.field_item c.before.before.before.before.before.before.before.before.before.before.before.before.before.before.before.before.before.args.records.now c.before.before.before.before.before.before.before.before.before.before.before.before.before.before.before.before.before.args.names.now c.before.before.before.before.before.before.before.before.before.before.flush-line.ensures c.before.before.before.before.before.before.field.ensures c.before.before.write_struct_field_separator.ensures))
+loop_again t c = alike Lists.fields c.before.before.before.before.before.before.before.before.before.before.before.before.before.before.before.before.before.args.s c.before.before.before.before.before.before.before.before.before.before.before.before.before.before.before.before.before.args.records.now c.before.before.before.before.before.before.before.before.before.before.before.before.before.before.before.before.before.args.names.now (λ f xs. refl) (turn Lists.fields c.before.before.before.before.before.before.before.before.before.before.before.before.before.before.before.before.before.args.s c.before.before.before.before.before.before.before.before.before.before.before.before.before.before.before.before.before.args.records.now c.before.before.before.before.before.before.before.before.before.before.before.before.before.before.before.before.before.args.names.now c.before.before.before.before.before.before.before.before.before.before.before.before.before.loop.invariant c.before.before.before.before.before.before.before.before.before.before.before.before.loop-test.true (Printers.field_item c.before.before.before.before.before.before.before.before.before.before.before.before.before.before.before.before.before.args.records.now c.before.before.before.before.before.before.before.before.before.before.before.before.before.before.before.before.before.args.names.now c.before.before.before.before.before.before.before.before.before.before.flush_line.ensures c.before.before.before.before.before.before.field.ensures c.before.before.write_struct_field_separator.ensures))
 
 pub returns : (t : ℕ) → fields_lts.Need-returns (calls t) (fields_at t) fields.Post Inv-loop μ-loop
 returns t c = done Lists.fields c.before.before.before.before.before.args.s c.before.before.before.before.before.args.records.now c.before.before.before.before.before.args.names.now c.before.loop.invariant c.loop-test.false

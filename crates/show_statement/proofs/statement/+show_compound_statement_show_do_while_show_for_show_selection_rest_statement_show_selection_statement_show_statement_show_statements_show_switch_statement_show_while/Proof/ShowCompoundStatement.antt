@@ -26,13 +26,13 @@ pub consume_function_definition_statement_requires : (t : ℕ) → show_compound
 consume_function_definition_statement_requires t c κs = search rules
 
 pub show_statements_requires : (t : ℕ) → show_compound_statement_lts.Need-show-statements-requires (calls t) (show_compound_statement_at t) show_compound_statement.Post
-show_statements_requires t c κs = (omega (arith, c.before.before.before.before.before.before.before.before.before.before.requires.0, (wrote c.before.before.before.before.enter-statements.ensures).next, ap (λ (p : Pen). p.next) c.before.consume-function-definition-statement.ensures), c.before.before.before.before.before.before.before.before.before.before.requires.1)
+show_statements_requires t c κs = (omega (arith, c.before.before.before.before.before.before.before.before.before.before.requires.0, (wrote c.before.before.before.before.enter-statements.ensures).next, ap (λ (p : Pen). p.next) c.before.consume_function_definition_statement.ensures), c.before.before.before.before.before.before.before.before.before.before.requires.1)
 
 pub exit_statements_requires : (t : ℕ) → show_compound_statement_lts.Need-exit-statements-requires (calls t) (show_compound_statement_at t) show_compound_statement.Post
 exit_statements_requires t c κs = search rules
 
 pub returns : (t : ℕ) → show_compound_statement_lts.Need-returns (calls t) (show_compound_statement_at t) show_compound_statement.Post
-returns t c = Statements.compound_parts c.before.before.before.before.before.before.before.before.before.before.before.before.before.before.before.before.before.args.records.now c.before.before.before.before.before.before.before.before.before.before.before.before.before.before.before.before.before.args.names.now {s = c.before.before.before.before.before.before.before.before.before.before.before.before.before.before.before.before.before.args.s} (not c.before.before.before.before.before.before.before.before.before.before.before.before.before.before.before.before.before.args.body && c.before.before.before.before.before.before.before.before.before.before.before.before.before.before.before.before.before.args.s.collapse_single_item_compound_statements && eqb c.before.before.before.before.before.before.before.before.before.before.before.before.before.before.before.before.before.args.n 1) c.before.before.before.before.before.before.before.before.before.before.before.before.before.before.before.before.before.args.body c.before.before.before.before.before.before.before.before.before.before.before.before.before.before.before.before.before.args.n refl c.before.before.before.before.before.before.before.before.before.before.before.enter-statements.ensures c.before.before.before.before.before.before.before.before.consume-function-definition-statement.ensures c.before.before.before.before.before.before.show_statements.ensures c.before.before.exit-statements.ensures
+returns t c = Statements.compound_parts c.before.before.before.before.before.before.before.before.before.before.before.before.before.before.before.before.before.args.records.now c.before.before.before.before.before.before.before.before.before.before.before.before.before.before.before.before.before.args.names.now {s = c.before.before.before.before.before.before.before.before.before.before.before.before.before.before.before.before.before.args.s} (not c.before.before.before.before.before.before.before.before.before.before.before.before.before.before.before.before.before.args.body && c.before.before.before.before.before.before.before.before.before.before.before.before.before.before.before.before.before.args.s.collapse_single_item_compound_statements && eqb c.before.before.before.before.before.before.before.before.before.before.before.before.before.before.before.before.before.args.n 1) c.before.before.before.before.before.before.before.before.before.before.before.before.before.before.before.before.before.args.body c.before.before.before.before.before.before.before.before.before.before.before.before.before.before.before.before.before.args.n refl c.before.before.before.before.before.before.before.before.before.before.before.enter-statements.ensures c.before.before.before.before.before.before.before.before.consume_function_definition_statement.ensures c.before.before.before.before.before.before.show_statements.ensures c.before.before.exit-statements.ensures
 
 pub same_length : (t : ℕ) → show_compound_statement_lts.Need-same-length (calls t) (show_compound_statement_at t) show_compound_statement.Post
 same_length t c = shown_length (returns t c)

@@ -41,10 +41,10 @@ pub write_statement_closing_parenthesis_requires : (t : ℕ) → show_for_lts.Ne
 write_statement_closing_parenthesis_requires t c κs = search rules
 
 pub show_statement_requires : (t : ℕ) → show_for_lts.Need-show-statement-requires (calls t) (show_for_at t) show_for.Post
-show_statement_requires t c κs = (omega (arith, c.before.before.before.before.before.before.before.before.before.before.before.before.before.before.before.before.before.before.before.before.before.before.before.before.before.before.before.before.before.pre.0, same_record c.before.before.before.before.before.before.before.before.before.before.before.before.before.before.before.before.before.before.before.before.before.before.before.before.before.before.before.before.before.args.s c.before.before.before.before.before.before.before.before.before.before.before.before.before.before.before.before.before.before.before.before.before.before.before.write-str.ensures, (wrote c.before.before.before.before.before.before.before.before.before.before.before.before.before.before.before.before.before.before.before.write_statement_opening_parenthesis.ensures).next, c.before.before.before.before.before.before.before.before.before.before.before.before.before.before.before.show_for_init_statement.ensures.next, (wrote (c.before.before.before.before.before.before.before.before.before.before.before.flush-space.ensures c.before.before.before.before.before.before.before.before.before.before.before.before.before.before.before.before.before.before.before.before.before.before.before.before.before.before.before.before.before.args.s)).next, c.before.before.before.before.before.before.before.show_for_rest_statement.ensures.next, (wrote c.before.before.before.write_statement_closing_parenthesis.ensures).next), c.before.before.before.before.before.before.before.before.before.before.before.before.before.before.before.before.before.before.before.before.before.before.before.before.before.before.before.before.before.pre.1)
+show_statement_requires t c κs = (omega (arith, c.before.before.before.before.before.before.before.before.before.before.before.before.before.before.before.before.before.before.before.before.before.before.before.before.before.before.before.before.before.pre.0, same_record c.before.before.before.before.before.before.before.before.before.before.before.before.before.before.before.before.before.before.before.before.before.before.before.before.before.before.before.before.before.args.s c.before.before.before.before.before.before.before.before.before.before.before.before.before.before.before.before.before.before.before.before.before.before.before.write-str.ensures, (wrote c.before.before.before.before.before.before.before.before.before.before.before.before.before.before.before.before.before.before.before.write_statement_opening_parenthesis.ensures).next, c.before.before.before.before.before.before.before.before.before.before.before.before.before.before.before.show_for_init_statement.ensures.next, (wrote (c.before.before.before.before.before.before.before.before.before.before.before.flush_space.ensures c.before.before.before.before.before.before.before.before.before.before.before.before.before.before.before.before.before.before.before.before.before.before.before.before.before.before.before.before.before.args.s)).next, c.before.before.before.before.before.before.before.show_for_rest_statement.ensures.next, (wrote c.before.before.before.write_statement_closing_parenthesis.ensures).next), c.before.before.before.before.before.before.before.before.before.before.before.before.before.before.before.before.before.before.before.before.before.before.before.before.before.before.before.before.before.pre.1)
 
 pub returns : (t : ℕ) → show_for_lts.Need-returns (calls t) (show_for_at t) show_for.Post
-returns t c = Statements.for_parts c.before.before.before.before.before.before.before.before.before.before.before.before.before.before.before.before.before.before.before.before.before.before.before.before.before.before.before.before.before.before.before.before.args.records.now c.before.before.before.before.before.before.before.before.before.before.before.before.before.before.before.before.before.before.before.before.before.before.before.before.before.before.before.before.before.before.before.before.args.names.now c.before.before.before.before.before.before.before.before.before.before.before.before.before.before.before.before.before.before.before.before.before.before.before.before.before.before.before.before.before.before.before.before.args.v c.before.before.before.before.before.before.before.before.before.before.before.before.before.before.before.before.before.before.before.before.before.before.before.before.before.before.write-str.ensures c.before.before.before.before.before.before.before.before.before.before.before.before.before.before.before.before.before.before.before.before.before.before.write_statement_opening_parenthesis.ensures c.before.before.before.before.before.before.before.before.before.before.before.before.before.before.before.before.before.before.show_for_init_statement.ensures (c.before.before.before.before.before.before.before.before.before.before.before.before.before.before.flush-space.ensures c.before.before.before.before.before.before.before.before.before.before.before.before.before.before.before.before.before.before.before.before.before.before.before.before.before.before.before.before.before.before.before.before.args.s) c.before.before.before.before.before.before.before.before.before.before.show_for_rest_statement.ensures c.before.before.before.before.before.before.write_statement_closing_parenthesis.ensures c.before.before.show_statement.ensures
+returns t c = Statements.for_parts c.before.before.before.before.before.before.before.before.before.before.before.before.before.before.before.before.before.before.before.before.before.before.before.before.before.before.before.before.before.before.before.before.args.records.now c.before.before.before.before.before.before.before.before.before.before.before.before.before.before.before.before.before.before.before.before.before.before.before.before.before.before.before.before.before.before.before.before.args.names.now c.before.before.before.before.before.before.before.before.before.before.before.before.before.before.before.before.before.before.before.before.before.before.before.before.before.before.before.before.before.before.before.before.args.v c.before.before.before.before.before.before.before.before.before.before.before.before.before.before.before.before.before.before.before.before.before.before.before.before.before.before.write-str.ensures c.before.before.before.before.before.before.before.before.before.before.before.before.before.before.before.before.before.before.before.before.before.before.write_statement_opening_parenthesis.ensures c.before.before.before.before.before.before.before.before.before.before.before.before.before.before.before.before.before.before.show_for_init_statement.ensures (c.before.before.before.before.before.before.before.before.before.before.before.before.before.before.flush_space.ensures c.before.before.before.before.before.before.before.before.before.before.before.before.before.before.before.before.before.before.before.before.before.before.before.before.before.before.before.before.before.before.before.before.args.s) c.before.before.before.before.before.before.before.before.before.before.show_for_rest_statement.ensures c.before.before.before.before.before.before.write_statement_closing_parenthesis.ensures c.before.before.show_statement.ensures
 
 pub same_length : (t : ℕ) → show_for_lts.Need-same-length (calls t) (show_for_at t) show_for.Post
 same_length t c = shown_length (returns t c)

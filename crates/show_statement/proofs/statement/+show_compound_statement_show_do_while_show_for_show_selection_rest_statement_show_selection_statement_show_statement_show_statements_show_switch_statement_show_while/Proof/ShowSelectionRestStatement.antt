@@ -30,10 +30,10 @@ pub consume_newline_requires : (t : ℕ) → show_selection_rest_statement_lts.N
 consume_newline_requires t c κs = search rules
 
 pub show_statement_requires_2 : (t : ℕ) → show_selection_rest_statement_lts.Need-show-statement-requires-2 (calls t) (show_selection_rest_statement_at t) show_selection_rest_statement.Post
-show_statement_requires_2 t c κs = (omega (arith, c.before.before.before.before.before.before.before.before.before.before.before.before.before.before.requires.0, c.before.before.before.before.before.before.before.before.before.show_statement.ensures.next, (wrote c.before.before.before.before.write_else.ensures).next, ap (λ (p : Pen). p.next) c.before.consume-newline.ensures), c.before.before.before.before.before.before.before.before.before.before.before.before.before.before.requires.1)
+show_statement_requires_2 t c κs = (omega (arith, c.before.before.before.before.before.before.before.before.before.before.before.before.before.before.requires.0, c.before.before.before.before.before.before.before.before.before.show_statement.ensures.next, (wrote c.before.before.before.before.write_else.ensures).next, ap (λ (p : Pen). p.next) c.before.consume_newline.ensures), c.before.before.before.before.before.before.before.before.before.before.before.before.before.before.requires.1)
 
 pub returns_2 : (t : ℕ) → show_selection_rest_statement_lts.Need-returns-2 (calls t) (show_selection_rest_statement_at t) show_selection_rest_statement.Post
-returns_2 t c = Statements.else_parts c.before.before.before.before.before.before.before.before.before.before.before.before.before.before.before.before.before.args.records.now c.before.before.before.before.before.before.before.before.before.before.before.before.before.before.before.before.before.args.names.now c.before.before.before.before.before.before.before.before.before.before.before.before.before.before.before.before.before.args.v c.before.before.before.before.before.before.before.before.before.if1.false c.before.before.before.before.before.before.before.before.before.before.before.before.show_statement.ensures c.before.before.before.before.before.before.before.write_else.ensures c.before.before.before.before.consume-newline.ensures c.before.before.show-statement2.ensures
+returns_2 t c = Statements.else_parts c.before.before.before.before.before.before.before.before.before.before.before.before.before.before.before.before.before.args.records.now c.before.before.before.before.before.before.before.before.before.before.before.before.before.before.before.before.before.args.names.now c.before.before.before.before.before.before.before.before.before.before.before.before.before.before.before.before.before.args.v c.before.before.before.before.before.before.before.before.before.if1.false c.before.before.before.before.before.before.before.before.before.before.before.before.show_statement.ensures c.before.before.before.before.before.before.before.write_else.ensures c.before.before.before.before.consume_newline.ensures c.before.before.show-statement2.ensures
 
 pub same_length : (t : ℕ) → show_selection_rest_statement_lts.Need-same-length (calls t) (show_selection_rest_statement_at t) show_selection_rest_statement.Post
 same_length t c = shown_length (returns t c)
