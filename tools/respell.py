@@ -37,7 +37,7 @@ AGAIN = {"pen": {"at_level": "at_level_lem"}, "show_declaration": {"single_of": 
 
 
 def is_own_style(name):
-    return bool(re.match(r"[a-z]", name)) and bool(re.search(r"[a-z0-9]-|-[a-z0-9]|[a-z0-9][A-Z]|·", name))
+    return bool(re.match(r"◌?[a-z]", name)) and bool(re.search(r"[a-z0-9]-|-[a-z0-9]|[a-z0-9][A-Z]|·", name))
 
 
 def snake(name):

@@ -19,7 +19,7 @@ pub record Allowed : Type 0 where
 
 infixl 30 ◌to◌
 infixl 20 ◌or◌
-infixl 20 ◌of-variants◌
+infixl 20 ◌of_variants◌
 -- no limit: a variant is a byte
 abbrev pub any_variant : ℕ
 any_variant = 255
@@ -35,8 +35,8 @@ abbrev pub ◌or◌ : Allowed → ℕ → Allowed
 ◌or◌ x k = record { low = x.low; high = x.high; also = k; least = x.least; most = x.most; declares = x.declares }
 
 -- only these variants, written as a range
-abbrev pub ◌of-variants◌ : Allowed → Allowed → Allowed
-◌of-variants◌ x vs = record { low = x.low; high = x.high; also = x.also; least = vs.low; most = vs.high; declares = x.declares }
+abbrev pub ◌of_variants◌ : Allowed → Allowed → Allowed
+◌of_variants◌ x vs = record { low = x.low; high = x.high; also = x.also; least = vs.low; most = vs.high; declares = x.declares }
 
 -- and a name there is declared
 abbrev pub declaring : Allowed → Allowed
