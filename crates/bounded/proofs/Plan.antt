@@ -10,7 +10,7 @@ use lib.ListN.{drop}
 use Rattle.records.specs.declared.Record.{Record}
 use Rattle.text.specs.Command.{Command}
 use Rattle.text.specs.Tree.{Expr, TypeSpecifier, TypeSpecifierNonArray, ArraySpecifier, ArraySpecifierDimension, StructFieldSpecifier, ArrayedIdentifier, TypeQualifier, TypeQualifierSpec, LayoutQualifierSpec, FullySpecifiedType, FunctionParameterDeclaration, FunctionPrototype, Initializer, SingleDeclaration, SingleDeclarationNoType, InitDeclaratorList, Block, Declaration, Condition, ForInitStatement, Statement, Statements, ExternalDeclaration}
-use Rattle.text.specs.Reading.{Read, Item, Reader, counted, several, give as give_tree, ◌and◌ as ◌and-read◌}
+use Rattle.text.specs.Reading.{Read, Item, Reader, counted, several, give as give_tree, ◌and◌ as ◌and_read◌}
 use Rattle.bounded.proofs.Weight.{record_weight, weighs}
 use Rattle.bounded.proofs.Fits.{Fits, fits, AllFit, behind_fit}
 

@@ -6,7 +6,7 @@ use Prim.Native.Nat.{ℕ, zero, suc, ◌+◌, ◌<◌}
 use native.Mathlib.Omega.{arith}
 use lib.ListN.{replicate}
 use Rattle.shapes.specs.Class.{Class}
-use Rattle.text.specs.Reading.{Read, Reader, from, counted, give as give_tree, several as read_several, ◌and◌ as ◌and-read◌}
+use Rattle.text.specs.Reading.{Read, Reader, from, counted, give as give_tree, several as read_several, ◌and◌ as ◌and_read◌}
 use Rattle.text.proofs.At.{and_at}
 use Rattle.formed.proofs.As.{Sort, reader, Formed, Reads, told, Parts}
 

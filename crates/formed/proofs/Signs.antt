@@ -68,9 +68,9 @@ pub record Starts (s : ℕ) (cs : List Command) : Type 0 where
   pub starts : (t : Settings) (x : FormattingState) → (bs : List ℕ) × (text t cs x ≡ byte ∷ bs)
 
 -- and more commands behind them
-infixl 20 ◌and-more◌
-◌and-more◌ : {s : ℕ} {cs : List Command} → Starts s cs → (ds : List Command) → Starts s (cs ++ ds)
-◌and-more◌ {cs = cs} h ds = record {
+infixl 20 ◌and_more◌
+◌and_more◌ : {s : ℕ} {cs : List Command} → Starts s cs → (ds : List Command) → Starts s (cs ++ ds)
+◌and_more◌ {cs = cs} h ds = record {
   byte = h.byte;
   fronts = h.fronts;
   same = h.same;
