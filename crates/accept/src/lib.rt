@@ -1,5 +1,7 @@
 // The refusals of the record check, and its tests of a record by itself, in the documents' order. (Crate walk takes all records; specs/Check defines the whole.)
 // What is tested goes by the table of crate shapes, which is made once and lent down.
+#![tactic(auto)]
+
 ghost use Rattle.std.specs.Prelude.{◌≡◌, ◌&&◌, ◌||◌, ◌+◌, ◌^◌, ◌≤◌, ◌<◌, leb, eqb};
 ghost use Rattle.word_table.specs.Table as WordTable;
 ghost use Rattle.shapes.specs.Class.{takes_variant};

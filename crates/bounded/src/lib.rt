@@ -1,1 +1,2 @@
 // No accepted tree meets a cap of the pen. The substance is in proofs/.
+#![tactic(auto)]

@@ -1,5 +1,7 @@
 // The record check as C functions, for the harness that compares it with the oracle's (oracle/harness, `harness check`). They are none of document 01's
 // calls: the numbers of a refusal's answer are.
+#![tactic(auto)]
+
 ghost use Rattle.std.specs.Prelude.{◌≡◌, ◌^◌, ◌<◌, ◌≤◌};
 ghost use Rattle.shapes.specs.Class.{Class};
 ghost use Rattle.accept.specs.Refusal.{number, checked_place};

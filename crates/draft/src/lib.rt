@@ -1,5 +1,7 @@
 // A unit or an expression put into a room by a draft. It knows no refusals: that the records were accepted is asked of the caller, who also says what
 // a text that is too long for its room means.
+#![tactic(auto)]
+
 ghost use Rattle.std.specs.Prelude.{◌≡◌, ◌≤◌, length};
 ghost use Rattle.std.proofs.lemmas.List.Edits.{sets};
 ghost use Rattle.word_table.specs.Table as Table;

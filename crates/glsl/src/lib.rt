@@ -1,4 +1,6 @@
 // The public calls (01, "Calls"), and the C functions over them. (The call that hands out a name is `records::name`.)
+#![tactic(auto)]
+
 ghost use Rattle.std.specs.Prelude.{◌≡◌, ◌<◌, ◌^◌};
 ghost use Rattle.word_table.specs.Table as WordTable;
 ghost use Rattle.accept.specs.Check.{check};

@@ -2,6 +2,8 @@
 // The walk keeps a stack, its top first: a byte for each tree that stands behind the record at hand and within its parents. A record takes its
 // children's bytes off and puts its own byte on, so that at a binary operator the second byte is the right operand's. A unary operator's operand, and
 // what a Dot is of, stand right behind it.
+#![tactic(auto)]
+
 ghost use Rattle.std.specs.Prelude.{◌≡◌, List, ℕ, ◌+◌, ◌≤◌, length, get_or, drop};
 ghost use Rattle.shapes.specs.Shape.{classes};
 ghost use Rattle.shapes.specs.Table as ShapeTable;

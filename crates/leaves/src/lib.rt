@@ -1,4 +1,6 @@
 // What the printers write between their parts: the functions of 000 that call no other printer, and parts of those that do.
+#![tactic(auto)]
+
 ghost use Rattle.std.specs.Prelude.{◌≡◌, cond, List, [], ◌++◌, ℕ, ◌+◌, ◌≤◌, min, eqb};
 ghost use Rattle.std.proofs.Math.Option.{none, some};
 ghost use Rattle.word_table.specs.Table as Table;

@@ -1,4 +1,6 @@
 // The state, lent: thin versions of the pen's new_line and consume_newline, which take 000's FormattingState by &mut as 000 does.
+#![tactic(auto)]
+
 ghost use Rattle.std.specs.Prelude.{◌≡◌, false};
 ghost use Rattle.text.specs.Pen.{pend};
 ghost use Rattle.pen.specs.Run.{asked};

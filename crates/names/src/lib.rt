@@ -1,5 +1,7 @@
 // What a text is as a name: an ordinary one, one that GLSL keeps for itself, or none (a fixed word is none). The table of words is lent; it tells a name's
 // bytes from others too.
+#![tactic(auto)]
+
 ghost use Rattle.std.specs.Prelude.{◌≡◌, true, ◌+◌, ◌<◌, ◌≤◌, length, take, drop};
 ghost use Rattle.words.specs.Form as Form;
 ghost use Rattle.words.specs.Keyword.{fixed_words};

@@ -1,4 +1,6 @@
 // The pen: 000's FormattingState by value, its methods in 000's order under 000's names, and the leaf writers that stand for `F: Write`.
+#![tactic(auto)]
+
 mod formatting;
 mod tokens;
 

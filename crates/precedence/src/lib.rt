@@ -1,4 +1,6 @@
 // 000 HasPrecedence: how strongly an expression binds, told by its record's kind and variant. The smaller the number, the stronger.
+#![tactic(auto)]
+
 ghost use Rattle.std.specs.Prelude.{◌≡◌, ◌≤◌};
 ghost use Rattle.text.specs.Operator.{binary_precedence};
 ghost use Rattle.text.specs.Reading.{binary_op_of};

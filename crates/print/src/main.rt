@@ -1,5 +1,7 @@
 // Prints a unit from the files of its folder (01, "Texts to match"): settings.rec, or OPEN where it can't be opened, tree.rec and names.txt. Writes the text, or
 // the refusal's number and place. Each file goes into an array that is one byte above its limit, so that a file above it is seen and refused.
+#![tactic(auto)]
+
 ghost use Rattle.std.specs.Prelude.{◌≡◌, [], ◌∷◌, ◌++◌, ◌+◌, ◌≤◌, length, take};
 ghost use Rattle.io.specs.Counts.{IsPrefixLen};
 ghost use Rattle.decimal.specs.Decimal.{decimal};

@@ -1,4 +1,6 @@
 // The records of a tree, read from the lent bytes, and the text that a record names.
+#![tactic(auto)]
+
 ghost use Rattle.std.specs.Prelude.{◌≡◌, ◌+◌, ◌≤◌, ◌<◌, ltb, length};
 ghost use Rattle.records.specs.Record.{u16_at, u32_at, record_in, record_count, record_at, part, name_at};
 

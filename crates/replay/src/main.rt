@@ -1,5 +1,7 @@
 // Replays samples of the oracle's answers about expressions, units, records' names and lent states (oracle/src/sample.rs writes them and has their format): asks the public
 // functions again, TIGHT, OPEN and EXPORT too, and compares answers, parts that are handed back, and every byte of the room. Reading is total: what stands beyond a sample's end reads as nothing, and then the answers differ.
+#![tactic(auto)]
+
 ghost use Rattle.std.specs.Prelude.{◌≡◌, ◌&&◌, ◌||◌, cond, ◌+◌, ◌*◌, ◌/◌, ◌%◌, ◌≤◌, min, eqb};
 ghost use Rattle.io.specs.Counts.{IsPrefixLen};
 ghost use Rattle.words.specs.Form.{same};

@@ -1,4 +1,6 @@
 // The settings of the text, and the state that goes with them: 000's IndentStyle, Whitespace, FormattingSettings and FormattingState.
+#![tactic(auto)]
+
 ghost use Rattle.std.specs.Prelude.{◌≡◌, ◌≤◌, length, get_or};
 ghost use Rattle.settings.specs.Answer.{Reads};
 ghost use Rattle.settings.specs.Bytes.{style_byte, flag_byte, whitespace_byte, settings_bytes};

@@ -1,6 +1,8 @@
 // The shapes of the records, by kind and variant, and what a place allows: document 01's table as constant bytes.
 // Whoever walks records makes the table once, `let t = shapes::table();`, and lends it down, `&t`: a constant array that is indexed in place would
 // be built anew at each use.
+#![tactic(auto)]
+
 ghost use Rattle.std.specs.Prelude.{◌≡◌, ◌+◌, ◌<◌};
 ghost use Rattle.shapes.specs.Class.{takes_kind, takes_variant};
 ghost use Rattle.shapes.specs.Table as Table;

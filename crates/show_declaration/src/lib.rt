@@ -1,5 +1,7 @@
 // The printers of declarations: 000 show_fully_specified_type, and show_declaration to show_block. Each reads the record that its pen stands before; a record
 // that is not of the expected kind is read as nothing, by the code as by the definition.
+#![tactic(auto)]
+
 ghost use Rattle.std.specs.Prelude.{◌≡◌, cond};
 ghost use Rattle.std.proofs.Math.Option.{none, some};
 ghost use Rattle.word_table.specs.Table as Table;

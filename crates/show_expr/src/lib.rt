@@ -1,4 +1,6 @@
 // The printers of expressions and of what they hold: 000 show_type_specifier_non_array to show_function_identifier.
+#![tactic(auto)]
+
 ghost use Rattle.std.specs.Prelude.{◌≡◌};
 ghost use Rattle.word_table.specs.Table as Table;
 ghost use Rattle.text.specs.Text.{show_expr};

@@ -1,5 +1,7 @@
 // The printers of statements that hold no statement, and of what stands in statements: 000's show_expression_statement, show_case_label, show_condition,
 // show_for_init_statement, show_for_rest_statement and show_jump_statement. One works behind its record where its comment says so, and else reads it.
+#![tactic(auto)]
+
 ghost use Rattle.std.specs.Prelude.{◌≡◌};
 ghost use Rattle.word_table.specs.Table as Table;
 ghost use Rattle.text.specs.Text.{show_statement, show_condition, show_for_init_statement, show_jump_statement, show_expr, optional};

@@ -1,2 +1,4 @@
 // The printers of statements, which call each other.
+#![tactic(auto)]
+
 pub mod statement;

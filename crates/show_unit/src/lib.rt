@@ -1,4 +1,6 @@
 // The printers of a unit: 000 show_function_definition, show_external_declaration and show_translation_unit.
+#![tactic(auto)]
+
 ghost use Rattle.std.specs.Prelude.{◌≡◌, true};
 ghost use Rattle.word_table.specs.Table as Table;
 ghost use Rattle.text.specs.Text.{show_compound_statement, show_external_declaration, show_translation_unit};

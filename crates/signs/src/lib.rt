@@ -1,4 +1,6 @@
 // The sign that the text of an expression begins with, asked of the records alone: for the joined question (02, #103) and for needed spaces (02, #106).
+#![tactic(auto)]
+
 ghost use Rattle.std.specs.Prelude.{◌≡◌, List, ℕ, leb};
 ghost use Rattle.text.specs.Operator.{precedence};
 ghost use Rattle.text.specs.Joins.{sign, sign_if};

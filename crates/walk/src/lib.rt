@@ -1,6 +1,8 @@
 // The record check: whatever bytes come, they are the tree that a root asks for, or there is one numbered refusal at one place.
 // Crate accept tests a record by itself; here the records are walked, in preorder. Both go by the table of crate shapes, which is made once and lent down, and by the
 // table of words, which the caller lends: a print goes on with it.
+#![tactic(auto)]
+
 ghost use Rattle.std.specs.Prelude.{◌≡◌};
 ghost use Rattle.word_table.specs.Table as WordTable;
 ghost use Rattle.shapes.specs.Class.{Class};

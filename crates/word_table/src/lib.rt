@@ -1,6 +1,8 @@
 // The words and operators that a printer writes, in one table.
 // A public call of a crate above makes the table once, `let t = word_table::table();`, and lends it down, `&t`: a constant array that is indexed
 // in place would be built anew at each use. What follows from the word list is written by tools/words.py, in rows.rt.
+#![tactic(auto)]
+
 ghost use Rattle.std.specs.Prelude.{◌≡◌, ◌<◌};
 ghost use Rattle.word_table.specs.Table as Table;
 

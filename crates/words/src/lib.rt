@@ -1,5 +1,7 @@
 // The words that GLSL fixes and a printer writes, and the form of a name and of a float's text, are in specs/. The code: whether a text has the form of a float's.
 // (Crate names judges names, by a table of the words.)
+#![tactic(auto)]
+
 ghost use Rattle.std.specs.Prelude.{◌≡◌, ◌≤◌, length, drop};
 ghost use Rattle.words.specs.Form as Form;
 
