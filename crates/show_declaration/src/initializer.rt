@@ -12,7 +12,7 @@ use settings::Settings;
 use word_table::rows::Words;
 
 // 000 show_initializer.
-#[cycle(show_initializer_show_initializers)]
+#[cycle(initializers)]
 pub fn show_initializer(
     s: Settings,
     t: &Words,
@@ -38,7 +38,7 @@ pub fn show_initializer(
 }
 
 // In show_initializer: n initializers.
-#[cycle(show_initializer_show_initializers)]
+#[cycle(initializers)]
 fn show_initializers(
     s: Settings,
     t: &Words,

@@ -1,6 +1,6 @@
 // The printers of types, structs, arrays, qualifiers and expressions, which call each other. At each call 8 * (records left) + rank falls: where the callee
-// stands before the caller's record (bare in expr, array in dims, ty in callee), its rank is lower. A name here is 000's without its `show_`, shortened, since
-// a proof's folder is named after all of a cycle's members; each says which function of 000 it is. Those that are pub, besides expr, are for the printers of units.
+// stands before the caller's record (bare in expr, array in dims, ty in callee), its rank is lower. A name here is 000's without its `show_`,
+// shortened; each says which function of 000 it is. Those that are pub, besides expr, are for the printers of units.
 // A printer reads the record that its pen stands before; one that takes fields of a record (a variant, a count) works behind that record.
 // A record that is not of an expected kind is read as nothing, by the code as by the definition: so no printer asks whether the records were checked.
 //
@@ -63,7 +63,7 @@ const SUBROUTINE: u8 = 17;
 const LAYOUT: u8 = 18;
 
 // 000 show_type_specifier_non_array.
-#[cycle(array_assign_bare_base_binary_call_callee_choice_comma_dim_dims_dot_expr_exprs_field_fields_id_ident_idents_index_layout_post_qual_qualif_question_spec_strukt_subr_ternary_ty_unary)]
+#[cycle(printers)]
 fn base(s: Settings, t: &Words, records: &[u8], names: &[u8], room: &mut [u8], pen: Pen) -> Pen
     requires { t.now ≡ Table.table }
     ensures { Shows show_type_specifier_non_array Reading.base s records.now names.now room.old pen room.new result }
@@ -80,7 +80,7 @@ fn base(s: Settings, t: &Words, records: &[u8], names: &[u8], room: &mut [u8], p
 }
 
 // 000 show_type_specifier.
-#[cycle(array_assign_bare_base_binary_call_callee_choice_comma_dim_dims_dot_expr_exprs_field_fields_id_ident_idents_index_layout_post_qual_qualif_question_spec_strukt_subr_ternary_ty_unary)]
+#[cycle(printers)]
 pub fn ty(s: Settings, t: &Words, records: &[u8], names: &[u8], room: &mut [u8], pen: Pen) -> Pen
     requires { t.now ≡ Table.table }
     ensures { Shows show_type_specifier Reading.type s records.now names.now room.old pen room.new result }
@@ -95,7 +95,7 @@ pub fn ty(s: Settings, t: &Words, records: &[u8], names: &[u8], room: &mut [u8],
 }
 
 // The dimensions behind a type or a name, where it has some.
-#[cycle(array_assign_bare_base_binary_call_callee_choice_comma_dim_dims_dot_expr_exprs_field_fields_id_ident_idents_index_layout_post_qual_qualif_question_spec_strukt_subr_ternary_ty_unary)]
+#[cycle(printers)]
 pub fn dims(
     s: Settings,
     t: &Words,
@@ -115,7 +115,7 @@ pub fn dims(
 }
 
 // 000 show_struct_non_declaration, behind its record.
-#[cycle(array_assign_bare_base_binary_call_callee_choice_comma_dim_dims_dot_expr_exprs_field_fields_id_ident_idents_index_layout_post_qual_qualif_question_spec_strukt_subr_ternary_ty_unary)]
+#[cycle(printers)]
 fn strukt(
     s: Settings,
     t: &Words,
@@ -137,7 +137,7 @@ fn strukt(
 }
 
 // In show_struct_non_declaration and show_block: n fields.
-#[cycle(array_assign_bare_base_binary_call_callee_choice_comma_dim_dims_dot_expr_exprs_field_fields_id_ident_idents_index_layout_post_qual_qualif_question_spec_strukt_subr_ternary_ty_unary)]
+#[cycle(printers)]
 pub fn fields(
     s: Settings,
     t: &Words,
@@ -162,7 +162,7 @@ pub fn fields(
 }
 
 // 000 show_struct_field.
-#[cycle(array_assign_bare_base_binary_call_callee_choice_comma_dim_dims_dot_expr_exprs_field_fields_id_ident_idents_index_layout_post_qual_qualif_question_spec_strukt_subr_ternary_ty_unary)]
+#[cycle(printers)]
 fn field(s: Settings, t: &Words, records: &[u8], names: &[u8], room: &mut [u8], pen: Pen) -> Pen
     requires { t.now ≡ Table.table }
     ensures { Shows show_struct_field Reading.field s records.now names.now room.old pen room.new result }
@@ -179,7 +179,7 @@ fn field(s: Settings, t: &Words, records: &[u8], names: &[u8], room: &mut [u8], 
 }
 
 // In show_struct_field: n identifiers.
-#[cycle(array_assign_bare_base_binary_call_callee_choice_comma_dim_dims_dot_expr_exprs_field_fields_id_ident_idents_index_layout_post_qual_qualif_question_spec_strukt_subr_ternary_ty_unary)]
+#[cycle(printers)]
 fn idents(
     s: Settings,
     t: &Words,
@@ -205,7 +205,7 @@ fn idents(
 }
 
 // 000 show_array_spec.
-#[cycle(array_assign_bare_base_binary_call_callee_choice_comma_dim_dims_dot_expr_exprs_field_fields_id_ident_idents_index_layout_post_qual_qualif_question_spec_strukt_subr_ternary_ty_unary)]
+#[cycle(printers)]
 fn array(s: Settings, t: &Words, records: &[u8], names: &[u8], room: &mut [u8], pen: Pen) -> Pen
     requires { t.now ≡ Table.table }
     ensures { Shows show_array_spec Reading.array s records.now names.now room.old pen room.new result }
@@ -225,7 +225,7 @@ fn array(s: Settings, t: &Words, records: &[u8], names: &[u8], room: &mut [u8], 
 }
 
 // In show_array_spec: one dimension.
-#[cycle(array_assign_bare_base_binary_call_callee_choice_comma_dim_dims_dot_expr_exprs_field_fields_id_ident_idents_index_layout_post_qual_qualif_question_spec_strukt_subr_ternary_ty_unary)]
+#[cycle(printers)]
 fn dim(s: Settings, t: &Words, records: &[u8], names: &[u8], room: &mut [u8], pen: Pen) -> Pen
     requires { t.now ≡ Table.table }
     ensures { Shows show_dimension Reading.dimension s records.now names.now room.old pen room.new result }
@@ -244,7 +244,7 @@ fn dim(s: Settings, t: &Words, records: &[u8], names: &[u8], room: &mut [u8], pe
 }
 
 // 000 show_arrayed_identifier.
-#[cycle(array_assign_bare_base_binary_call_callee_choice_comma_dim_dims_dot_expr_exprs_field_fields_id_ident_idents_index_layout_post_qual_qualif_question_spec_strukt_subr_ternary_ty_unary)]
+#[cycle(printers)]
 pub fn ident(s: Settings, t: &Words, records: &[u8], names: &[u8], room: &mut [u8], pen: Pen) -> Pen
     requires { t.now ≡ Table.table }
     ensures { Shows show_arrayed_identifier Reading.identifier s records.now names.now room.old pen room.new result }
@@ -259,7 +259,7 @@ pub fn ident(s: Settings, t: &Words, records: &[u8], names: &[u8], room: &mut [u
 }
 
 // A qualifier and a space, where there is one.
-#[cycle(array_assign_bare_base_binary_call_callee_choice_comma_dim_dims_dot_expr_exprs_field_fields_id_ident_idents_index_layout_post_qual_qualif_question_spec_strukt_subr_ternary_ty_unary)]
+#[cycle(printers)]
 pub fn qualif(
     s: Settings,
     t: &Words,
@@ -280,7 +280,7 @@ pub fn qualif(
 }
 
 // 000 show_type_qualifier.
-#[cycle(array_assign_bare_base_binary_call_callee_choice_comma_dim_dims_dot_expr_exprs_field_fields_id_ident_idents_index_layout_post_qual_qualif_question_spec_strukt_subr_ternary_ty_unary)]
+#[cycle(printers)]
 pub fn qual(s: Settings, t: &Words, records: &[u8], names: &[u8], room: &mut [u8], pen: Pen) -> Pen
     requires { t.now ≡ Table.table }
     ensures { Shows (λ q. show_type_qualifier q true) Reading.qualifier s records.now names.now room.old pen room.new result }
@@ -303,7 +303,7 @@ pub fn qual(s: Settings, t: &Words, records: &[u8], names: &[u8], room: &mut [u8
 }
 
 // 000 show_type_qualifier_spec, with show_storage_qualifier, show_precision_qualifier and show_interpolation_qualifier.
-#[cycle(array_assign_bare_base_binary_call_callee_choice_comma_dim_dims_dot_expr_exprs_field_fields_id_ident_idents_index_layout_post_qual_qualif_question_spec_strukt_subr_ternary_ty_unary)]
+#[cycle(printers)]
 pub fn spec(s: Settings, t: &Words, records: &[u8], names: &[u8], room: &mut [u8], pen: Pen) -> Pen
     requires { t.now ≡ Table.table }
     ensures { Shows show_type_qualifier_spec Reading.spec s records.now names.now room.old pen room.new result }
@@ -322,7 +322,7 @@ pub fn spec(s: Settings, t: &Words, records: &[u8], names: &[u8], room: &mut [u8
 }
 
 // 000 show_subroutine, behind its record, which counts n types.
-#[cycle(array_assign_bare_base_binary_call_callee_choice_comma_dim_dims_dot_expr_exprs_field_fields_id_ident_idents_index_layout_post_qual_qualif_question_spec_strukt_subr_ternary_ty_unary)]
+#[cycle(printers)]
 fn subr(
     s: Settings,
     t: &Words,
@@ -352,7 +352,7 @@ fn subr(
 }
 
 // 000 show_layout_qualifier, behind its record, which counts n ids.
-#[cycle(array_assign_bare_base_binary_call_callee_choice_comma_dim_dims_dot_expr_exprs_field_fields_id_ident_idents_index_layout_post_qual_qualif_question_spec_strukt_subr_ternary_ty_unary)]
+#[cycle(printers)]
 fn layout(
     s: Settings,
     t: &Words,
@@ -379,7 +379,7 @@ fn layout(
 }
 
 // 000 show_layout_qualifier_spec.
-#[cycle(array_assign_bare_base_binary_call_callee_choice_comma_dim_dims_dot_expr_exprs_field_fields_id_ident_idents_index_layout_post_qual_qualif_question_spec_strukt_subr_ternary_ty_unary)]
+#[cycle(printers)]
 fn id(s: Settings, t: &Words, records: &[u8], names: &[u8], room: &mut [u8], pen: Pen) -> Pen
     requires { t.now ≡ Table.table }
     ensures { Shows show_layout_qualifier_spec Reading.layout_id s records.now names.now room.old pen room.new result }
@@ -402,7 +402,7 @@ fn id(s: Settings, t: &Words, records: &[u8], names: &[u8], room: &mut [u8], pen
 
 // 000 show_expr as an operand, which is bare if it binds at `most` or more strongly, and else in parentheses. (Where no record is left `bare` shows nothing, too; with the way
 // out here the compiler leaves `expr` out of its callers and puts `bare` into it, which is much faster: docs/SPEED.md.)
-#[cycle(array_assign_bare_base_binary_call_callee_choice_comma_dim_dims_dot_expr_exprs_field_fields_id_ident_idents_index_layout_post_qual_qualif_question_spec_strukt_subr_ternary_ty_unary)]
+#[cycle(printers)]
 pub fn expr(
     s: Settings,
     t: &Words,
@@ -426,7 +426,7 @@ pub fn expr(
 }
 
 // 000 show_expr.
-#[cycle(array_assign_bare_base_binary_call_callee_choice_comma_dim_dims_dot_expr_exprs_field_fields_id_ident_idents_index_layout_post_qual_qualif_question_spec_strukt_subr_ternary_ty_unary)]
+#[cycle(printers)]
 fn bare(s: Settings, t: &Words, records: &[u8], names: &[u8], room: &mut [u8], pen: Pen) -> Pen
     requires { t.now ≡ Table.table }
     ensures { Shows show_expr Reading.expr s records.now names.now room.old pen room.new result }
@@ -456,7 +456,7 @@ fn bare(s: Settings, t: &Words, records: &[u8], names: &[u8], room: &mut [u8], p
 }
 
 // In show_expr: Unary.
-#[cycle(array_assign_bare_base_binary_call_callee_choice_comma_dim_dims_dot_expr_exprs_field_fields_id_ident_idents_index_layout_post_qual_qualif_question_spec_strukt_subr_ternary_ty_unary)]
+#[cycle(printers)]
 fn unary(
     s: Settings,
     t: &Words,
@@ -475,7 +475,7 @@ fn unary(
 }
 
 // In show_expr: Binary.
-#[cycle(array_assign_bare_base_binary_call_callee_choice_comma_dim_dims_dot_expr_exprs_field_fields_id_ident_idents_index_layout_post_qual_qualif_question_spec_strukt_subr_ternary_ty_unary)]
+#[cycle(printers)]
 fn binary(
     s: Settings,
     t: &Words,
@@ -495,7 +495,7 @@ fn binary(
 }
 
 // In show_expr: Ternary.
-#[cycle(array_assign_bare_base_binary_call_callee_choice_comma_dim_dims_dot_expr_exprs_field_fields_id_ident_idents_index_layout_post_qual_qualif_question_spec_strukt_subr_ternary_ty_unary)]
+#[cycle(printers)]
 fn ternary(s: Settings, t: &Words, records: &[u8], names: &[u8], room: &mut [u8], pen: Pen) -> Pen
     requires { t.now ≡ Table.table }
     ensures { Shows show_expr (give Expr.Ternary and Reading.expr and Reading.expr and Reading.expr) s records.now names.now room.old pen room.new result }
@@ -505,7 +505,7 @@ fn ternary(s: Settings, t: &Words, records: &[u8], names: &[u8], room: &mut [u8]
 }
 
 // In show_expr, Ternary: the condition and its mark.
-#[cycle(array_assign_bare_base_binary_call_callee_choice_comma_dim_dims_dot_expr_exprs_field_fields_id_ident_idents_index_layout_post_qual_qualif_question_spec_strukt_subr_ternary_ty_unary)]
+#[cycle(printers)]
 fn question(s: Settings, t: &Words, records: &[u8], names: &[u8], room: &mut [u8], pen: Pen) -> Pen
     requires { t.now ≡ Table.table }
     ensures { Shows Rest.show_question Reading.expr s records.now names.now room.old pen room.new result }
@@ -515,7 +515,7 @@ fn question(s: Settings, t: &Words, records: &[u8], names: &[u8], room: &mut [u8
 }
 
 // In show_expr, Ternary: what stands behind the mark.
-#[cycle(array_assign_bare_base_binary_call_callee_choice_comma_dim_dims_dot_expr_exprs_field_fields_id_ident_idents_index_layout_post_qual_qualif_question_spec_strukt_subr_ternary_ty_unary)]
+#[cycle(printers)]
 fn choice(s: Settings, t: &Words, records: &[u8], names: &[u8], room: &mut [u8], pen: Pen) -> Pen
     requires { t.now ≡ Table.table }
     ensures { Shows Rest.show_choice Rest.choice s records.now names.now room.old pen room.new result }
@@ -526,7 +526,7 @@ fn choice(s: Settings, t: &Words, records: &[u8], names: &[u8], room: &mut [u8],
 }
 
 // In show_expr: Assignment.
-#[cycle(array_assign_bare_base_binary_call_callee_choice_comma_dim_dims_dot_expr_exprs_field_fields_id_ident_idents_index_layout_post_qual_qualif_question_spec_strukt_subr_ternary_ty_unary)]
+#[cycle(printers)]
 fn assign(
     s: Settings,
     t: &Words,
@@ -545,7 +545,7 @@ fn assign(
 }
 
 // In show_expr: Bracket.
-#[cycle(array_assign_bare_base_binary_call_callee_choice_comma_dim_dims_dot_expr_exprs_field_fields_id_ident_idents_index_layout_post_qual_qualif_question_spec_strukt_subr_ternary_ty_unary)]
+#[cycle(printers)]
 fn index(s: Settings, t: &Words, records: &[u8], names: &[u8], room: &mut [u8], pen: Pen) -> Pen
     requires { t.now ≡ Table.table }
     ensures { Shows show_expr (give Expr.Bracket and Reading.expr and Reading.expr) s records.now names.now room.old pen room.new result }
@@ -557,7 +557,7 @@ fn index(s: Settings, t: &Words, records: &[u8], names: &[u8], room: &mut [u8], 
 }
 
 // In show_expr: FunCall, with n arguments.
-#[cycle(array_assign_bare_base_binary_call_callee_choice_comma_dim_dims_dot_expr_exprs_field_fields_id_ident_idents_index_layout_post_qual_qualif_question_spec_strukt_subr_ternary_ty_unary)]
+#[cycle(printers)]
 fn call(
     s: Settings,
     t: &Words,
@@ -577,7 +577,7 @@ fn call(
 }
 
 // In show_expr, FunCall: n arguments.
-#[cycle(array_assign_bare_base_binary_call_callee_choice_comma_dim_dims_dot_expr_exprs_field_fields_id_ident_idents_index_layout_post_qual_qualif_question_spec_strukt_subr_ternary_ty_unary)]
+#[cycle(printers)]
 fn exprs(
     s: Settings,
     t: &Words,
@@ -603,7 +603,7 @@ fn exprs(
 }
 
 // 000 show_function_identifier.
-#[cycle(array_assign_bare_base_binary_call_callee_choice_comma_dim_dims_dot_expr_exprs_field_fields_id_ident_idents_index_layout_post_qual_qualif_question_spec_strukt_subr_ternary_ty_unary)]
+#[cycle(printers)]
 fn callee(s: Settings, t: &Words, records: &[u8], names: &[u8], room: &mut [u8], pen: Pen) -> Pen
     requires { t.now ≡ Table.table }
     ensures { Shows show_function_identifier Reading.callee s records.now names.now room.old pen room.new result }
@@ -615,7 +615,7 @@ fn callee(s: Settings, t: &Words, records: &[u8], names: &[u8], room: &mut [u8],
 }
 
 // In show_expr: Dot.
-#[cycle(array_assign_bare_base_binary_call_callee_choice_comma_dim_dims_dot_expr_exprs_field_fields_id_ident_idents_index_layout_post_qual_qualif_question_spec_strukt_subr_ternary_ty_unary)]
+#[cycle(printers)]
 fn dot(
     s: Settings,
     t: &Words,
@@ -635,7 +635,7 @@ fn dot(
 }
 
 // In show_expr: PostInc and PostDec.
-#[cycle(array_assign_bare_base_binary_call_callee_choice_comma_dim_dims_dot_expr_exprs_field_fields_id_ident_idents_index_layout_post_qual_qualif_question_spec_strukt_subr_ternary_ty_unary)]
+#[cycle(printers)]
 fn post(
     s: Settings,
     t: &Words,
@@ -653,7 +653,7 @@ fn post(
 }
 
 // In show_expr: Comma.
-#[cycle(array_assign_bare_base_binary_call_callee_choice_comma_dim_dims_dot_expr_exprs_field_fields_id_ident_idents_index_layout_post_qual_qualif_question_spec_strukt_subr_ternary_ty_unary)]
+#[cycle(printers)]
 fn comma(s: Settings, t: &Words, records: &[u8], names: &[u8], room: &mut [u8], pen: Pen) -> Pen
     requires { t.now ≡ Table.table }
     ensures { Shows show_expr (give Expr.Comma and Reading.expr and Reading.expr) s records.now names.now room.old pen room.new result }

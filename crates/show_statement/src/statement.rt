@@ -18,7 +18,7 @@ use word_table::rows::Words;
 
 // 000 show_compound_statement, behind its record, which counts n statements. Whether a function's body begins here is told by whoever calls: 000 asks the state, where it
 // is on at a function's own body and nowhere else. The one caller is show_statement, which says no: a function's own body has show_function_body.
-#[cycle(show_compound_statement_show_do_while_show_for_show_selection_rest_statement_show_selection_statement_show_statement_show_statements_show_switch_statement_show_while)]
+#[cycle(statements)]
 fn show_compound_statement(
     s: Settings,
     t: &Words,
@@ -80,7 +80,7 @@ pub fn show_function_body(
 }
 
 // In show_compound_statement, show_function_body and show_switch_statement: n statements.
-#[cycle(show_compound_statement_show_do_while_show_for_show_selection_rest_statement_show_selection_statement_show_statement_show_statements_show_switch_statement_show_while)]
+#[cycle(statements)]
 fn show_statements(
     s: Settings,
     t: &Words,
@@ -103,7 +103,7 @@ fn show_statements(
 }
 
 // 000 show_statement: what is no statement flushes all the same.
-#[cycle(show_compound_statement_show_do_while_show_for_show_selection_rest_statement_show_selection_statement_show_statement_show_statements_show_switch_statement_show_while)]
+#[cycle(statements)]
 fn show_statement(
     s: Settings,
     t: &Words,
@@ -135,7 +135,7 @@ fn show_statement(
 }
 
 // 000 show_selection_statement, behind its record.
-#[cycle(show_compound_statement_show_do_while_show_for_show_selection_rest_statement_show_selection_statement_show_statement_show_statements_show_switch_statement_show_while)]
+#[cycle(statements)]
 fn show_selection_statement(
     s: Settings,
     t: &Words,
@@ -156,7 +156,7 @@ fn show_selection_statement(
 }
 
 // 000 show_selection_rest_statement, in an if statement of this variant. A newline that is pending there is forgotten, so the second statement stays on the line of `else`.
-#[cycle(show_compound_statement_show_do_while_show_for_show_selection_rest_statement_show_selection_statement_show_statement_show_statements_show_switch_statement_show_while)]
+#[cycle(statements)]
 fn show_selection_rest_statement(
     s: Settings,
     t: &Words,
@@ -179,7 +179,7 @@ fn show_selection_rest_statement(
 }
 
 // 000 show_switch_statement, behind its record, which counts n statements.
-#[cycle(show_compound_statement_show_do_while_show_for_show_selection_rest_statement_show_selection_statement_show_statement_show_statements_show_switch_statement_show_while)]
+#[cycle(statements)]
 fn show_switch_statement(
     s: Settings,
     t: &Words,
@@ -202,7 +202,7 @@ fn show_switch_statement(
 }
 
 // 000 show_iteration_statement, While, behind its record.
-#[cycle(show_compound_statement_show_do_while_show_for_show_selection_rest_statement_show_selection_statement_show_statement_show_statements_show_switch_statement_show_while)]
+#[cycle(statements)]
 fn show_while(
     s: Settings,
     t: &Words,
@@ -222,7 +222,7 @@ fn show_while(
 }
 
 // 000 show_iteration_statement, DoWhile, behind its record.
-#[cycle(show_compound_statement_show_do_while_show_for_show_selection_rest_statement_show_selection_statement_show_statement_show_statements_show_switch_statement_show_while)]
+#[cycle(statements)]
 fn show_do_while(
     s: Settings,
     t: &Words,
@@ -246,7 +246,7 @@ fn show_do_while(
 }
 
 // 000 show_iteration_statement, For, behind its record. A newline that a declaration left pending is written as a space.
-#[cycle(show_compound_statement_show_do_while_show_for_show_selection_rest_statement_show_selection_statement_show_statement_show_statements_show_switch_statement_show_while)]
+#[cycle(statements)]
 fn show_for(
     s: Settings,
     t: &Words,
