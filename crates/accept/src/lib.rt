@@ -14,7 +14,7 @@ use word_table::rows::Words;
 use words::NameSort;
 
 // 01's refusals, in its order, and 02's (specs/Refusal has their numbers). The check gives all but 1 and 13.
-#[derive(Drop)]
+#[derive(Clone, Copy)]
 pub enum Refusal {
     SettingsOutOfRange,
     RecordsOutOfSize,
@@ -33,7 +33,7 @@ pub enum Refusal {
 }
 
 // The record behind a tree, or a refusal and its place.
-#[derive(Drop)]
+#[derive(Clone, Copy)]
 pub enum Checked {
     Next(usize),
     Refused(Refusal, usize),

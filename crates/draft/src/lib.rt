@@ -25,14 +25,14 @@ const SHORT: usize = 4096;
 const LONG: usize = 32768;
 
 // What is put. The functions take it, here and in crate glsl, so that each is written and proved once.
-#[derive(Drop)]
+#[derive(Clone, Copy)]
 pub enum Root {
     Unit,
     Expr,
 }
 
 // Whether the text fits the room, and is there: its length in either case.
-#[derive(Drop)]
+#[derive(Clone, Copy)]
 pub enum Fit {
     Written(usize),
     TooLong(usize),

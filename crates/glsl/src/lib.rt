@@ -15,7 +15,7 @@ use settings::{Settings, SettingsRead};
 use word_table::rows::Words;
 
 // The answer of a print: the length of its text, or the refusal with its place. specs/Printed.antt gives the documents' number of each case.
-#[derive(Drop)]
+#[derive(Clone, Copy)]
 pub enum Printed {
     Text(usize),
     Refused(Refusal, usize),
@@ -188,7 +188,7 @@ pub extern "C" fn glsl_print_expr(
 }
 
 // The answer to the joined question. specs/Joined.antt gives the documents' number of each case.
-#[derive(Drop)]
+#[derive(Clone, Copy)]
 pub enum Whether {
     No,
     Yes,

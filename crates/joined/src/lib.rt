@@ -13,7 +13,7 @@ use records::Record;
 use shapes::rows::Shapes;
 
 // How the text of an expression begins, how strongly it binds, and what it is by itself: a unary plus or minus has its sign, an IntConst a point.
-#[derive(Drop)]
+#[derive(Clone, Copy)]
 pub struct Head {
     pub sign: u8,
     pub precedence: u8,

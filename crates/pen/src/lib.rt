@@ -20,7 +20,7 @@ use word_table::rows::Words;
 
 // The record to be read next, where the next byte goes, and the state of the line layout. (The order counts: a pen goes into and out of every printer, through
 // memory, and with the place before the record it takes 24 bytes, here 16; docs/SPEED.md.)
-#[derive(Drop)]
+#[derive(Clone, Copy)]
 pub struct Pen {
     pub next: usize,
     pub at: u32,

@@ -5,7 +5,7 @@ ghost use Rattle.std.specs.Prelude.{◌≡◌, ◌+◌, ◌≤◌, ◌<◌, ltb,
 ghost use Rattle.records.specs.Record.{u16_at, u32_at, record_in, record_count, record_at, part, name_at};
 
 // A record's fields.
-#[derive(Drop)]
+#[derive(Clone, Copy)]
 pub struct Record {
     pub kind: u8,
     pub variant: u8,

@@ -43,7 +43,7 @@ const BLANK: u8 = 165;
 const UNSET: u64 = 18446744073709551615;
 
 // An answer as the sample has it: a refusal's number, 0 for none, and the value beside it.
-#[derive(Drop)]
+#[derive(Clone, Copy)]
 struct Answer {
     number: u64,
     value: u64,

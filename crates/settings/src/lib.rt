@@ -8,14 +8,14 @@ ghost use Rattle.settings.specs.Settings.{fewest_bytes, in_range, style_of, flag
 ghost use Rattle.settings.specs.State.{fresh};
 
 // What a level is indented with. (000 keeps the count in here; a record may give a count without a style, so it is a field beside. 000's tab_size is never read.)
-#[derive(Drop)]
+#[derive(Clone, Copy)]
 pub enum IndentStyle {
     None,
     Tabs,
     Spaces,
 }
 
-#[derive(Drop)]
+#[derive(Clone, Copy)]
 pub enum Whitespace {
     None,
     Space,
@@ -23,7 +23,7 @@ pub enum Whitespace {
 }
 
 // A field for each byte of the settings record, in its order, under the names of 000; the last is not of 000.
-#[derive(Drop)]
+#[derive(Clone, Copy)]
 pub struct Settings {
     pub indent_style: IndentStyle,
     pub count: u8,
@@ -51,14 +51,14 @@ pub struct Settings {
 }
 
 // The answer to bytes that are asked to be a settings record. specs/Answer.antt gives 01's number of each case.
-#[derive(Drop)]
+#[derive(Clone, Copy)]
 pub enum SettingsRead {
     Read(Settings),
     Refused,
 }
 
 // The state of the line layout. 000's holds the settings too, which go beside it here, and two fields that only directives use, which come with request #101.
-#[derive(Drop)]
+#[derive(Clone, Copy)]
 pub struct FormattingState {
     pub indentation_level: u16,
     pub new_line_pending: bool,

@@ -8,7 +8,7 @@ ghost use Rattle.words.specs.Form as Form;
 const LONGEST_FLOAT: usize = 400;
 
 // What a text is as a name (specs/Form, name_sort).
-#[derive(Drop)]
+#[derive(Clone, Copy)]
 pub enum NameSort {
     Ordinary,
     Reserved,
