@@ -1,0 +1,11 @@
+-- `write_for_statement_separator` meets its contract: its calls run its commands, one behind the other. Assumes nothing.
+use Rattle.pen.proofs.Chain.{◌then◌, by_token, by_space_if}
+use mathlib.Core.Path.{refl}
+use Rattle.text.specs.Token.{Token, spell}
+use Rattle.words.specs.Symbol.{Symbol, symbol_text}
+use Rattle.text.specs.Asked.{Flag, flag}
+use Rattle.pen.proofs.Pen.write_for_statement_separator.Goals as goal
+
+pub returns : goal.returns
+unfolding flag spell symbol_text
+returns c = by_token (Token.symbol Symbol.semicolon) refl c.write_char.ensures then by_space_if Flag.space_after_for_statement_separator c.write_space_if.ensures
