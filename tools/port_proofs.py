@@ -198,7 +198,8 @@ class Body:
         old, new = place[2]
         if not old:
             return None
-        if flat(field) == flat(old) or not exact and re.sub(r"\d+$", "", flat(field)) == re.sub(r"\d+$", "", flat(old)):
+        field = re.sub(r"-lem$", "", flat(field))
+        if field == flat(old) or not exact and re.sub(r"\d+$", "", field) == re.sub(r"\d+$", "", flat(old)):
             return ".".join(["c", new] + self.fields(place, rest)), (("step", place) if not rest else None)
         return None
 
@@ -358,6 +359,8 @@ def loop_fact(name, args, body, table, new, changed_of):
 
     def sub(m):
         parts = m.group(0).split(".")
+        if re.search(r"[{;]\s*$", body[:m.start()]) and re.match(r"\s*[=:]\s", body[m.end():]):
+            return m.group(0)  # a record's field
         if parts[0] in subst:
             rest = parts[1:]
             return ".".join([subst[parts[0]]] + rest)
