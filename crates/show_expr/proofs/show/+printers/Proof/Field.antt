@@ -44,7 +44,7 @@ pub idents_requires : (t : ℕ) → field_lts.Need-idents-requires (calls t) (fi
 idents_requires t c κs = (omega (arith, c.before.before.before.before.before.before.before.before.before.before.before.before.before.before.before.before.before.before.before.before.before.requires.0, c.before.before.before.before.before.before.before.before.before.before.before.qualif.ensures.next, c.before.before.before.before.before.before.before.ty.ensures.next, same_record c.before.before.before.before.before.before.before.before.before.before.before.before.before.before.before.before.before.before.before.before.before.args.s c.before.before.before.write-char.ensures, (Printers.inside c.before.before.before.before.before.before.before.before.before.before.before.before.before.before.before.before.before.before.before.before.before.args.s c.before.before.before.before.before.before.before.before.before.before.before.before.before.before.before.before.before.before.before.before.before.args.records.now c.before.before.before.before.before.before.before.before.before.before.before.before.before.before.before.before.before.before.before.before.before.args.pen 26 c.before.before.before.before.before.before.before.before.before.before.before.before.before.before.before.before.before.record-at.ensures c.before.before.before.before.before.before.before.before.before.before.before.before.before.before.before.if1.false (omega arith) c.before.before.before.before.before.before.before.before.before.before.before.before.before.before.past.ensures).0, (Printers.inside c.before.before.before.before.before.before.before.before.before.before.before.before.before.before.before.before.before.before.before.before.before.args.s c.before.before.before.before.before.before.before.before.before.before.before.before.before.before.before.before.before.before.before.before.before.args.records.now c.before.before.before.before.before.before.before.before.before.before.before.before.before.before.before.before.before.before.before.before.before.args.pen 26 c.before.before.before.before.before.before.before.before.before.before.before.before.before.before.before.before.before.record-at.ensures c.before.before.before.before.before.before.before.before.before.before.before.before.before.before.before.if1.false (omega arith) c.before.before.before.before.before.before.before.before.before.before.before.before.before.before.past.ensures).1), c.before.before.before.before.before.before.before.before.before.before.before.before.before.before.before.before.before.before.before.before.before.requires.1)
 
 pub returns_2 : (t : ℕ) → field_lts.Need-returns-2 (calls t) (field_at t) field.Post
-returns_2 t c = Printers.field_of c.before.before.before.before.before.before.before.before.before.before.before.before.before.before.before.before.before.before.before.before.before.before.before.before.args.records.now c.before.before.before.before.before.before.before.before.before.before.before.before.before.before.before.before.before.before.before.before.before.before.before.before.args.names.now c.before.before.before.before.before.before.before.before.before.before.before.before.before.before.before.before.before.before.before.before.record-at.ensures c.before.before.before.before.before.before.before.before.before.before.before.before.before.before.before.before.before.before.if1.false c.before.before.before.before.before.before.before.before.before.before.before.before.before.before.before.before.before.past.ensures c.before.before.before.before.before.before.before.before.before.before.before.before.before.before.qualif.ensures c.before.before.before.before.before.before.before.before.before.before.ty.ensures c.before.before.before.before.before.before.write-char.ensures c.before.before.idents.ensures
+returns_2 t c = Printers.field_of_lem c.before.before.before.before.before.before.before.before.before.before.before.before.before.before.before.before.before.before.before.before.before.before.before.before.args.records.now c.before.before.before.before.before.before.before.before.before.before.before.before.before.before.before.before.before.before.before.before.before.before.before.before.args.names.now c.before.before.before.before.before.before.before.before.before.before.before.before.before.before.before.before.before.before.before.before.record-at.ensures c.before.before.before.before.before.before.before.before.before.before.before.before.before.before.before.before.before.before.if1.false c.before.before.before.before.before.before.before.before.before.before.before.before.before.before.before.before.before.past.ensures c.before.before.before.before.before.before.before.before.before.before.before.before.before.before.qualif.ensures c.before.before.before.before.before.before.before.before.before.before.ty.ensures c.before.before.before.before.before.before.write-char.ensures c.before.before.idents.ensures
 
 pub same_length : (t : ℕ) → field_lts.Need-same-length (calls t) (field_at t) field.Post
 same_length t c = shown_length (returns_2 t c)

@@ -46,7 +46,7 @@ pub returns_3 : (t : ℕ) → spec_lts.Need-returns-3 (calls t) (spec_at t) spec
 returns_3 t c = Printers.layout c.before.before.before.before.before.before.before.before.before.before.before.before.args.records.now c.before.before.before.before.before.before.before.before.before.before.before.before.args.names.now c.before.before.before.before.before.before.before.before.record-at.ensures c.before.before.before.before.before.before.if1.false c.before.before.before.before.match.keys2 c.before.before.before.before.before.past.ensures c.before.before.layout.ensures
 
 pub returns_4 : (t : ℕ) → spec_lts.Need-returns-4 (calls t) (spec_at t) spec.Post
-returns_4 t c = Printers.qualifier_word c.before.before.before.before.before.before.before.before.before.before.before.before.args.records.now c.before.before.before.before.before.before.before.before.before.before.before.before.args.names.now c.before.before.before.before.before.before.before.before.record-at.ensures c.before.before.before.before.before.before.if1.false c.before.before.before.before.match.rest.0.1 c.before.before.before.before.match.rest.1 c.before.before.before.before.before.past.ensures (c.before.before.show-qualifier-word.ensures c.before.before.before.before.before.before.before.before.before.before.before.before.args.s)
+returns_4 t c = Printers.qualifier_word_lem c.before.before.before.before.before.before.before.before.before.before.before.before.args.records.now c.before.before.before.before.before.before.before.before.before.before.before.before.args.names.now c.before.before.before.before.before.before.before.before.record-at.ensures c.before.before.before.before.before.before.if1.false c.before.before.before.before.match.rest.0.1 c.before.before.before.before.match.rest.1 c.before.before.before.before.before.past.ensures (c.before.before.show-qualifier-word.ensures c.before.before.before.before.before.before.before.before.before.before.before.before.args.s)
 
 pub same_length : (t : ℕ) → spec_lts.Need-same-length (calls t) (spec_at t) spec.Post
 same_length t c = shown_length (returns_2 t c)
