@@ -1,0 +1,11 @@
+-- `leaves::show_jump_word` meets its contract: the row holds the text. Assumes nothing.
+use mathlib.Core.Path.{◌∙◌, ap}
+use Rattle.word_table.specs.Table.{text_at}
+use Rattle.text.specs.Token.{Token}
+use Rattle.leaves.specs.Jump.{jump_word}
+use Rattle.pen.proofs.Chain.{by_token}
+use Rattle.leaves.proofs.Rows.{jump_text}
+use Rattle.leaves.proofs.show_jump_word.Goals as goal
+
+pub returns : goal.returns
+returns c = λ s. by_token (Token.word (jump_word c.args.v)) (ap text_at c.section_row.ensures ∙ jump_text _) c.write_word.ensures
