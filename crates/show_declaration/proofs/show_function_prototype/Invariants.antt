@@ -1,0 +1,11 @@
+-- `show_declaration::show_function_prototype` meets its contract. Assumes nothing.
+use mathlib.Core.Bool.{true}
+use Rattle.leaves.proofs.Shown.{Loop}
+use Rattle.show_declaration.proofs.Lists.{parameters}
+use Rattle.show_declaration.proofs.show_function_prototype.Given as goal
+
+abbrev pub invariant-loop-left : goal.invariant-loop-left
+invariant-loop-left l = Loop parameters l.s l.records l.names l.initial.left true l.initial.room l.initial.at l.left l.first l.room l.at
+
+abbrev pub decreases-loop-left : goal.decreases-loop-left
+decreases-loop-left l = l.left
