@@ -1,7 +1,6 @@
 -- `draft::put_by` meets its contract: drafted, and then, where it fits the room, copied from a draft that is long enough, or written again. Assumes nothing.
 use mathlib.Core.Path.{sym}
 use native.Mathlib.Omega.{arith}
-use lib.Seq.{length-take-le}
 use Rattle.draft.specs.Root.{root_reader, root_show}
 use Rattle.draft.proofs.Drafted.{not_put, copied, rewritten}
 use Rattle.draft.proofs.put_by.Goals as goal
@@ -15,12 +14,6 @@ pub returns-then-draft-n : goal.returns-then-draft-n
 returns-then-draft-n c =
     let a = c.args in
     rewritten (root_show a.root a.s) (root_reader a.root) a.s a.records.now a.names.now c.requires.1 a.room.now c.start-pen.ensures c.show_root-drafted.ensures (omega (arith, c.if-room-n.false)) c.show_root.ensures
-
-pub slice_bounds-copy_text-end-2 : goal.slice_bounds-copy_text-end-2
-slice_bounds-copy_text-end-2 c = sym (length-take-le c.show_root-drafted.result.at c.show_root-drafted.new.s.1.1.1.1.0 (omega (arith, c.if-room-n.false)))
-
-pub copy_text-requires : goal.copy_text-requires
-copy_text-requires c = omega (arith, c.if-room-n.false, length-take-le c.show_root-drafted.result.at c.show_root-drafted.new.s.1.1.1.1.0 (omega (arith, c.if-room-n.false)))
 
 pub returns : goal.returns
 returns c =
