@@ -11,7 +11,7 @@ use lib.ListN.{length}
 use Rattle.words.specs.declared.NameSort.TheVariants.{Ordinary, Reserved, NoName}
 use Rattle.words.specs.Form.{name_form, float_form, reserved, name_sort}
 use Rattle.words.proofs.Sorts.{told}
-use Rattle.shapes.specs.Shape.{Fields, fields_in}
+use Rattle.shapes.specs.Shape.{Fields}
 use Rattle.shapes.specs.Table.{cell, fields_of, count_of, shape_at}
 use Rattle.accept.specs.declared.Refusal.{Refusal}
 use Rattle.accept.specs.declared.Refusal.TheVariants.{TextMisformed, ReservedDeclared}

@@ -9,7 +9,6 @@ use Rattle.text.specs.Reading as Reading
 use Rattle.text.specs.Reading.{Reader, from}
 use Rattle.pen.specs.declared.Pen.{Pen}
 use Rattle.draft.specs.declared.Root.{Root}
-use Rattle.draft.specs.declared.Root.TheVariants as Root
 
 abbrev pub RootTree : Root → Type 0
 RootTree Root.Unit = TranslationUnit

@@ -19,7 +19,6 @@ use Rattle.pen.specs.Free.{Free}
 use Rattle.bounded.proofs.Narrow.{narrow_read}
 use Rattle.bounded.proofs.Free.{unit_free, expr_free}
 use Rattle.draft.specs.declared.Root.{Root}
-use Rattle.draft.specs.declared.Root.TheVariants as Root
 use Rattle.draft.specs.Root.{root_commands, start}
 use Rattle.glsl.specs.Root.{root_class, root_text, value, print_outcome}
 use Rattle.glsl.proofs.Outcome.{outcome_small}

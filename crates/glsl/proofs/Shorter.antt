@@ -7,7 +7,6 @@ use Rattle.settings.specs.Settings.{fewest_bytes}
 use Rattle.settings.proofs.Shorter.{settings_same, read_same}
 use Rattle.text.specs.Whole.{unit_text, expr_text}
 use Rattle.draft.specs.declared.Root.{Root}
-use Rattle.draft.specs.declared.Root.TheVariants as Root
 use Rattle.glsl.specs.Root.{root_text, print_outcome}
 
 pub same_text : (root : Root) (settings records names : List ℕ) → root_text root (settings ++ 0 ∷ []) records names ≡ root_text root settings records names

@@ -6,7 +6,6 @@ use Rattle.text.specs.Whole.{unit_text, expr_text}
 use Rattle.settings.specs.Settings.{read_settings}
 use Rattle.accept.specs.Check.{check}
 use Rattle.draft.specs.declared.Root.{Root}
-use Rattle.draft.specs.declared.Root.TheVariants as Root
 use Rattle.glsl.specs.declared.Printed.{Printed}
 use Rattle.glsl.specs.declared.Printed.TheVariants as Answer
 use Rattle.glsl.specs.Printed.{outcome}

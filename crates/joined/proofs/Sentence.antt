@@ -7,7 +7,6 @@ use native.Mathlib.Omega.{arith}
 use native.Mathlib.Nat.{zero-add}
 use lib.ListN.{get_or}
 use Rattle.words.specs.Bytes.{bytes}
-use Rattle.words.specs.Form.{same}
 use Rattle.words.specs.Symbol.{Symbol, symbol_text}
 use Rattle.settings.specs.Settings.{settings_of, TIGHT}
 use Rattle.settings.specs.State.{fresh}

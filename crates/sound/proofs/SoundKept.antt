@@ -1,6 +1,6 @@
 -- A sound expression keeps its tokens apart (division, proofs/Kept) under settings that put spaces around operators or where they are needed: with the latter by these, without them because each place where a
 -- sign or a dot would be read together with what stands before it, but behind a binary operator, is excluded by a condition of soundness. Assumes nothing.
-use mathlib.Core.Path.{◌≡◌, refl, sym, ap, subst, ◌∙◌}
+use mathlib.Core.Path.{◌≡◌, refl, sym, ap, subst}
 use mathlib.Core.Bool.{Bool, true, false, not, ◌||◌}
 use mathlib.Core.List.{List}
 use Prim.Native.Nat.{ℕ, ◌≤◌}

@@ -1,5 +1,4 @@
 -- `draft::put_by` meets its contract: drafted, and then, where it fits the room, copied from a draft that is long enough, or written again. Assumes nothing.
-use mathlib.Core.Path.{sym}
 use native.Mathlib.Omega.{arith}
 use Rattle.draft.specs.Root.{root_reader, root_show}
 use Rattle.draft.proofs.Drafted.{not_put, copied, rewritten}
