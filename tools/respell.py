@@ -1,5 +1,5 @@
 #!/usr/bin/env python3
-"""Spells this repository's own definitions and lemmas as today's Rattle spells its own: in snake case. Run once, behind the kit's port.py.
+"""Spells this repository's own definitions and lemmas as today's Rattle spells its own: types in camel case, all else in snake case. Run once, behind the kit's port.py.
 
 usage: tools/respell.py            in the repository: rewrites crates/*/src, specs and proofs, and says which names would fall together
        tools/respell.py --table    prints the names that change, old and new, and writes nothing
@@ -32,17 +32,22 @@ APART = {
 }
 APART.update({n: n.replace("-", "_") + "_lem" for n in "in-range name-byte nothing-behind root-text qualifier-word field-of block-of declaration-of declarator-of declarators-of full-type-of prototype-of".split()})
 
-# Lemmas that port.py spelled like a definition of the same crate, which it left.
+# Lemmas that port.py spelled like a definition of the same crate, which it left; and a constructor that it spelled as if it were a lemma.
 AGAIN = {"pen": {"at_level": "at_level_lem"}, "show_declaration": {"single_of": "single_of_lem"}}
+AGAIN.update({c: {"one_of_lem": "one_of"} for c in ("shapes", "walk", "joined")})
 
 
 def is_own_style(name):
+    if re.match(r"[A-Z]", name):
+        return "-" in name
     return bool(re.match(r"◌?[a-z]", name)) and bool(re.search(r"[a-z0-9]-|-[a-z0-9]|[a-z0-9][A-Z]|·", name))
 
 
 def snake(name):
     if name in APART:
         return APART[name]
+    if name[0].isupper():
+        return re.sub(r"-(\w)", lambda m: m[1].upper(), name)
     name = re.sub(r"(?<=[a-z0-9])[A-Z](?![A-Z])", lambda m: "_" + m[0].lower(), name)
     name = re.sub(r"(?<=[a-z0-9])([A-Z])$", lambda m: "_" + m[1].lower(), name)
     # a name of the grammar and its case, which a middle dot joined, are two names
