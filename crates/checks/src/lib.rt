@@ -1,5 +1,5 @@
-// The record check as C functions, for the harness that compares it with the oracle's (oracle/harness, `harness check`). They are none of document 01's
-// calls: the numbers of a refusal's answer are.
+// The record check as the functions of C that crates/checks_c exports, for the harness that compares it with the oracle's (oracle/harness, `harness check`). They are
+// none of document 01's calls: the numbers of a refusal's answer are.
 #![tactic(auto)]
 
 ghost use Rattle.std.specs.Prelude.{◌≡◌, ◌^◌, ◌<◌, ◌≤◌};
@@ -53,8 +53,7 @@ fn answer_of(o: Checked) -> i64
 }
 
 // The record check of a unit.
-#[unsafe(no_mangle)]
-pub extern "C" fn accept_unit(records: &[u8], names: &[u8]) -> i64
+pub fn accept_unit(records: &[u8], names: &[u8]) -> i64
     ensures { result ≡ answer (check records.now names.now Class.unit) }
 {
     let words = word_table::table();
@@ -62,8 +61,7 @@ pub extern "C" fn accept_unit(records: &[u8], names: &[u8]) -> i64
 }
 
 // The record check of an expression.
-#[unsafe(no_mangle)]
-pub extern "C" fn accept_expr(records: &[u8], names: &[u8]) -> i64
+pub fn accept_expr(records: &[u8], names: &[u8]) -> i64
     ensures { result ≡ answer (check records.now names.now Class.expr) }
 {
     let words = word_table::table();

@@ -1,4 +1,4 @@
-// The public calls (01, "Calls"), and the C functions over them. (The call that hands out a name is `records::name`.)
+// The public calls (01, "Calls"), also as those of C, which crates/glsl_c exports. (The call that hands out a name is `records::name`.)
 #![tactic(auto)]
 
 ghost use Rattle.std.specs.Prelude.{◌≡◌, ◌<◌, ◌^◌};
@@ -162,9 +162,9 @@ fn print_bits(root: Root, settings: &[u8], records: &[u8], names: &[u8], room: &
     printed_bits(print_into(root, settings, records, names, room))
 }
 
-// The calls for C: each slice is a pointer and a length, the answer the length of the text or a refusal with its place.
-#[unsafe(no_mangle)]
-pub extern "C" fn glsl_print_unit(
+// The calls for C, which crates/glsl_c exports under the same names and clauses: there each slice is a pointer and a length. The answer is the length of the text or a
+// refusal with its place.
+pub fn glsl_print_unit(
     settings: &[u8],
     records: &[u8],
     names: &[u8],
@@ -175,8 +175,7 @@ pub extern "C" fn glsl_print_unit(
     print_bits(Root::Unit, settings, records, names, room)
 }
 
-#[unsafe(no_mangle)]
-pub extern "C" fn glsl_print_expr(
+pub fn glsl_print_expr(
     settings: &[u8],
     records: &[u8],
     names: &[u8],
@@ -224,8 +223,7 @@ fn joined_bits(o: Whether) -> i64
     }
 }
 
-#[unsafe(no_mangle)]
-pub extern "C" fn glsl_joined(records: &[u8], names: &[u8]) -> i64
+pub fn glsl_joined(records: &[u8], names: &[u8]) -> i64
     ensures { result ≡ joined_bits (joined_outcome records.now names.now) }
 {
     joined_bits(joined(records, names))
