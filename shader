@@ -70,16 +70,6 @@ while [ $# -gt 0 ]; do
 done
 given=${given:-$root/crates/print/data}
 
-# Proves and builds the program.
-build() {
-    mkdir -p "$root/target"
-    [ -x "$root/target/bin/print" ] || echo "shader: the program is proved first, which takes minutes (target/shader.log)" >&2
-    if ! (cd "$root" && rt check print) >"$root/target/shader.log" 2>&1; then
-        cat "$root/target/shader.log" >&2
-        exit 1
-    fi
-}
-
 # The number and place of a refusal; nothing where a text was printed. A refusal is the one line `refused N at P`. No text is that, though it may begin with the
 # name `refused`: the text of a unit has a ; or a }, or is empty.
 refusal() {
@@ -98,8 +88,8 @@ else
     cp "$given/tree.rec" "$made/"
     [ ! -f "$given/names.txt" ] || cp "$given/names.txt" "$made/"
 fi
-build
-(cd "$folder" && "$root/tools/program.sh" "$root/target/bin/print") >"$made/text"
+program=$("$root/tools/program.sh")
+(cd "$folder" && "$program") >"$made/text"
 cat "$made/text"
 refused=$(refusal)
 if [ -n "$refused" ]; then

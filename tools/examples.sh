@@ -9,7 +9,7 @@ trap 'rm -rf "$folder"' EXIT
 
 # The text of the tree in the folder, which must be printed.
 printed() {
-    (cd "$folder" && "$root/tools/program.sh" "$root/target/bin/print" >text)
+    (cd "$folder" && "$program" >text)
     case $(head -n 1 "$folder/text") in
     "refused "*)
         echo "examples: $1 is $(cat "$folder/text")"
@@ -31,7 +31,7 @@ settle() {
 write=no
 [ "${1:-}" != --write ] || write=yes
 "$root/tools/tree.sh" check "$root/examples/shader.txt" "$root/crates/print/data"
-(cd "$root" && rt check print >/dev/null)
+program=$("$root/tools/program.sh")
 count=0
 for example in "$root"/examples/*.txt; do
     "$root/tools/tree.sh" write "$example" "$folder"

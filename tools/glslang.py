@@ -696,17 +696,6 @@ def part_types(program):
     return not count["errors"] and not count["different"]
 
 
-def built():
-    """The program's file; it is proved before it is built."""
-    program = os.path.join(print_runs.ROOT, "target/bin/print")
-    if not os.path.exists(program):
-        print("glslang: the program is proved first, which takes minutes", file=sys.stderr)
-    check = subprocess.run(["rt", "check", "print"], cwd=print_runs.ROOT, capture_output=True, text=True, check=False)
-    if check.returncode:
-        sys.exit(check.stdout + check.stderr)
-    return program
-
-
 def main():
     if len(sys.argv) > 3 or not all(argument.isdigit() for argument in sys.argv[1:]):
         sys.exit(__doc__)
@@ -716,7 +705,7 @@ def main():
         sys.exit(2)
     version = subprocess.run([READER, "--version"], capture_output=True, text=True, check=True).stdout.split("\n")[0]
     print(f"glslang: {version}; seed {seed}")
-    program = built()
+    program = print_runs.built()
     went_well = [part(program, seed, cases, spaced) for spaced in (False, True) for part in (part_sound, part_typed)]
     sys.exit(not all([*went_well, part_types(program)]))
 

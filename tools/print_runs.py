@@ -1,7 +1,7 @@
 #!/usr/bin/env python3
 """print_runs.py [PROGRAM]: runs the program `print` (crates/print) in a folder of its own for each line of the tables below, and compares all that it writes.
 
-Without PROGRAM it is proved and built first, and ./shader is run too, with its exit status. The texts and refusals are document 01's ("Calls", "Texts to match")
+Without PROGRAM it is the one that tools/program.sh has at hand or proves and builds, and ./shader is run too, with its exit status. The texts and refusals are document 01's ("Calls", "Texts to match")
 and those of requests #102, #105 and #106; none is taken from the program."""
 import os
 import subprocess
@@ -217,7 +217,7 @@ def written(program, files):
     """All that the program writes in a folder with these files."""
     with tempfile.TemporaryDirectory() as folder:
         fill(folder, files)
-        run = subprocess.run([os.path.join(ROOT, "tools/program.sh"), program], cwd=folder, stdin=subprocess.DEVNULL, capture_output=True, check=False)
+        run = subprocess.run([program], cwd=folder, stdin=subprocess.DEVNULL, capture_output=True, check=False)
         return run.stdout if run.returncode == 0 and not run.stderr else f"status {run.returncode}: {run.stderr!r}".encode()
 
 
@@ -245,10 +245,13 @@ def shown(data):
     return repr(data) if len(data) <= 120 else f"{data[:60]!r} .. {data[-40:]!r}, {len(data)} bytes"
 
 
+def built():
+    """The program's file; it is proved before it is built, unless it is at hand."""
+    return subprocess.run([os.path.join(ROOT, "tools/program.sh")], stdout=subprocess.PIPE, text=True, check=True).stdout.strip()
+
+
 def main():
-    program = os.path.abspath(sys.argv[1]) if sys.argv[1:] else os.path.join(ROOT, "target/bin/print")
-    if not sys.argv[1:]:
-        subprocess.run(["rt", "check", "print"], cwd=ROOT, check=True)
+    program = os.path.abspath(sys.argv[1]) if sys.argv[1:] else built()
     failed = 0
     for name, files, text in RUNS:
         found, expected = written(program, files), text.encode()

@@ -1,9 +1,18 @@
 #!/bin/sh
-# Runs a program that `rt check` built, in the folder at hand: tools/program.sh FILE. Programs are for x86-64 and run as rt runs them: under the kit's loader and
-# C library and, on another processor, its emulator.
+# Tells where the program `print` is: tools/program.sh
+# It is proved and built first, unless it is at hand: newer than all that it is made from. `rt ci` leaves it too, so behind that nothing is proved. What is said meanwhile goes to target/program.log.
 set -eu
-[ $# -eq 1 ] || { echo "usage: tools/program.sh FILE" >&2; exit 2; }
-kit=$(cd "$(dirname "$(rt doc)")/.." && pwd -P)/on/$(uname -m)/toolchain
-emulator=$kit/bin/qemu-x86_64
-[ -x "$emulator" ] || emulator=
-exec ${emulator:+"$emulator"} "$kit/lib/ld-linux-x86-64.so.2" --library-path "$kit/lib" "$1"
+[ $# -eq 0 ] || { echo "usage: tools/program.sh" >&2; exit 2; }
+root=$(cd "$(dirname "$0")/.." && pwd -P)
+program=$root/crates/print/out/print
+newer() { find "$root/crates.txt" "$root"/crates/*/src "$root"/crates/*/specs "$root"/crates/*/proofs -newer "$program" -print 2>/dev/null | head -n 1; }
+if [ ! -x "$program" ] || [ -n "$(newer)" ]; then
+    mkdir -p "$root/target"
+    [ -x "$program" ] || echo "program: print is proved first, which takes minutes (target/program.log)" >&2
+    # (it also runs the program, in a folder that has no tree)
+    if ! (cd "$root/crates/print" && rt run) >"$root/target/program.log" 2>&1 </dev/null; then
+        cat "$root/target/program.log" >&2
+        exit 1
+    fi
+fi
+echo "$program"

@@ -1,46 +1,68 @@
 #!/bin/sh
-# Proves a library and writes target/native/libNAME.a, its static library for THIS machine: tools/staticlib.sh NAME
-# On x86-64 that is what `rt staticlib` writes. `rt` compiles for no other machine; there the same module of LLVM is compiled for it, by the
-# kit's own clang with rt's own flags, so that the oracle's harness can link and time it. Only the code that clang makes of the module differs.
+# Writes target/native/libNAME.a, a static library of proved code for x86-64, out of the crate NAME_c, which has the C functions over the crate NAME:
+#
+#     tools/staticlib.sh glsl|checks               proves what is not proved yet, over what `rt check` kept (`rt lib`)
+#     tools/staticlib.sh --behind-ci glsl|checks   takes the libraries that `rt ci` proved and left in crates/*/out, in a checkout that had none before it ran, as ./test knows
+#
+# `rt ci` leaves of each library what the crates above it can cite and its code, and `rt lib` takes no such library: it would prove all of them again. So behind `rt ci` the
+# static library is built as `rt ci` checked it and as it builds a program: by the same rattle over the same libraries, which proves NAME_c and compiles what was proved.
 set -eu
-[ $# -eq 1 ] || { echo "usage: tools/staticlib.sh NAME" >&2; exit 2; }
-name=$1 machine=$(uname -m)
-if [ "$machine" != x86_64 ]; then
-    kit=$(cd "$(dirname "$(rt doc)")/.." && pwd -P)
-    # A kit that is the installed one but for its clang.
-    shadow=$(mktemp -d)
-    trap 'rm -rf "$shadow"' EXIT
-    own=$shadow/on/$machine
-    mkdir -p "$own/toolchain/bin"
-    for part in "$kit"/*; do [ "${part##*/}" = on ] || ln -s "$part" "$shadow/"; done
-    for part in "$kit/on/$machine"/*; do [ "${part##*/}" = toolchain ] || ln -s "$part" "$own/"; done
-    for part in "$kit/on/$machine/toolchain"/*; do [ "${part##*/}" = bin ] || ln -s "$part" "$own/toolchain/"; done
-    for part in "$kit/on/$machine/toolchain/bin"/*; do [ "${part##*/}" = clang ] || ln -s "$part" "$own/toolchain/bin/"; done
-    clang=$kit/on/$machine/toolchain/bin/clang
-    cat > "$own/toolchain/bin/clang" <<END
-#!/bin/sh
-# Called with a module for x86-64: names this machine in it, and compiles that.
-set -eu
-flags=
-for word; do
-    case \$word in
-    --target=*) flags="\$flags --target=$machine-unknown-linux-gnu" ;;
-    -march=*) ;;
-    module.bc) flags="\$flags module.ll" ;;
-    *) flags="\$flags \$word" ;;
-    esac
-done
-$clang --target=x86_64-unknown-linux-gnu -S -emit-llvm -Xclang -disable-llvm-passes -x ir module.bc -o x86.ll
-sed -e '/^target datalayout/d' -e 's/^target triple.*/target triple = "$machine-unknown-linux-gnu"/' -e 's/"target-cpu"="x86-64"//' x86.ll > module.ll
-exec $clang \$flags
-END
-    chmod +x "$own/toolchain/bin/clang"
-    RATTLE_HOME=$shadow
-    export RATTLE_HOME
+usage() {
+    echo "usage: tools/staticlib.sh [--behind-ci] NAME" >&2
+    exit 2
+}
+behind=no
+if [ "${1:-}" = --behind-ci ]; then
+    behind=yes
+    shift
 fi
-rt staticlib "$name"
-root=$(pwd -P)
-while [ ! -f "$root/crates.txt" ]; do root=$(dirname "$root"); done
+[ $# -eq 1 ] || usage
+name=$1 crate=$1_c
+root=$(cd "$(dirname "$0")/.." && pwd -P)
+[ -d "$root/crates/$crate" ] || usage
+archive=$root/crates/$crate/out/lib$crate.a
+
+# The libraries that crates.txt lists for a crate, and all below a crate.
+listed() { sed -n "s/^$1\( staticlib\)\{0,1\}: *//p" "$root/crates.txt"; }
+below() {
+    waiting=$(listed "$1") found=
+    while [ -n "$waiting" ]; do
+        next=
+        for it in $waiting; do
+            case " $found " in
+            *" $it "*) ;;
+            *) found="$found $it" next="$next $(listed "$it")" ;;
+            esac
+        done
+        waiting=$(echo $next)
+    done
+    echo $found
+}
+
+# Builds it over the libraries that rt ci left.
+over_ci() {
+    kit=$(dirname "$(rt doc)")
+    set -- --crate-name "$crate" src/lib.rt --crate-type staticlib --links "$crate=" --extern "std=$kit/rlibs/std.rlib" -L "dependency=$kit/rlibs"
+    for it in $(listed "$crate"); do
+        set -- "$@" --extern "$it=$root/crates/$it/out/rlib/$it.rlib"
+    done
+    for it in $(below "$crate"); do
+        # (a stamp is of rt's other commands, whose libraries only they keep apart from older ones)
+        if [ ! -d "$root/crates/$it/out/rlib/$it.rlib" ] || [ -e "$root/crates/$it/out/rlib/stamp" ]; then
+            echo "staticlib: rt ci left no library $it here"
+            return 1
+        fi
+        set -- "$@" -L "dependency=$root/crates/$it/out/rlib"
+    done
+    set -- "$@" --antt-project "$kit/rattle/logic/antt-project.json" --logic-built "$kit/logic_built" --jobs 2
+    mkdir -p "$root/crates/$crate/out"
+    (cd "$root/crates/$crate" && "$kit/bin/rattle" build "$@" --toolchain "$kit/toolchain" --backend llvm -o "$archive")
+}
+
+rm -f "$archive"
+if [ "$behind" = no ] || ! over_ci; then
+    (cd "$root/crates/$crate" && rt lib)
+fi
 mkdir -p "$root/target/native"
-mv "$root/target/staticlib/lib$name.a" "$root/target/native/lib$name.a"
-echo "target/native/lib$name.a is for $machine"
+cp "$archive" "$root/target/native/lib$name.a"
+echo "target/native/lib$name.a is proved and compiled"
