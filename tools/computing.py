@@ -31,9 +31,8 @@ def written():
     uses, names = [], []
     for crate, module in MODULES:
         found = unfoldables(open(f"crates/{crate}/specs/{module}.antt", encoding="utf-8").read())
-        prefix = "Rattle·text·specs.specs" if crate == "text" else f"Rattle·{crate}.specs"
         if found:
-            uses.append(f"use {prefix}.{module}.{{{', '.join(found)}}}")
+            uses.append(f"use Rattle.{crate}.specs.{module}.{{{', '.join(found)}}}")
             names += found
     return (
         "-- For worked texts: `unfolding computing` opens every definition of the text. Made by tools/computing.py. Assumes nothing.\n"

@@ -17,7 +17,7 @@ def read(name):
 
 
 def class_numbers():
-    listed = re.search(r"classOf c = getD \((.*?)∷ \[\]\) \(c % most-classes\) (\S+)", read("Table.antt")).groups()
+    listed = re.search(r"class_of c = get_or \((.*?)∷ \[\]\) \(c % most_classes\) (\S+)", read("Table.antt")).groups()
     return [word.strip() for word in listed[0].split("∷") if word.strip()] + [listed[1]]
 
 
@@ -26,7 +26,7 @@ def allowed(text):
     declares = text.startswith("declaring ")
     if declares:
         text = text.removeprefix("declaring ").strip("()")
-    kinds, _, variants = text.partition(" of-variants ")
+    kinds, _, variants = text.partition(" of_variants ")
     kinds, _, also = kinds.partition(" or ")
     low, _, high = kinds.replace("only ", "").partition(" to ")
     low, high = int(low), int(high or low)
@@ -127,15 +127,15 @@ def literal(numbers, width):
 def written():
     heads, rows, classes = table()
     everything = heads + rows + classes
-    places = {"first-row": len(heads), "first-class-row": len(heads) + len(rows), "cells": len(everything)}
+    places = {"first_row": len(heads), "first_class_row": len(heads) + len(rows), "cells": len(everything)}
     for name, number in places.items():
         assert f"\n{name} = {number}\n" in read("Table.antt"), f"specs/Table.antt must say {name} = {number}"
     return (
         "// The table's bytes, and where its sections begin. Written by tools/shapes.py from the rows in specs/.\n"
         f"pub type Shapes = [u8; {len(everything)}];\n\n"
         "// Behind a head of 2 bytes for each kind, its last variant and its first row: rows of 8 bytes, which kinds may share, and one for each class.\n"
-        f"pub const FIRST_ROW: usize = {places['first-row']};\n\n"
-        f"pub const FIRST_CLASS: usize = {places['first-class-row']};\n\n"
+        f"pub const FIRST_ROW: usize = {places['first_row']};\n\n"
+        f"pub const FIRST_CLASS: usize = {places['first_class_row']};\n\n"
         f"pub const TABLE: Shapes = *b\"\\\n{literal(everything, 32)}\";\n"
     )
 

@@ -76,13 +76,13 @@ def module(first, vectors):
     lines = [
         "-- Texts of the Rust module, two words mended, and of the oracle's second printer. Made by tools/vectors.py. Assumes nothing.",
         "use mathlib.Core.Path.{refl}",
-        "use Rattle·text.specs.Case.{defined}",
-        "use Rattle·text.proofs.Computing.{computing}",
+        "use Rattle.text.specs.Case.{defined}",
+        "use Rattle.text.proofs.Computing.{computing}",
         "",
     ]
     sorts = set()
     for i, (root, settings, records, names, text, joined) in enumerate(vectors, first):
-        sort = {"Unit2": "unit", "Expr0": "expr", "Expr1": "joined-expr"}[root + joined]
+        sort = {"Unit2": "unit", "Expr0": "expr", "Expr1": "joined_expr"}[root + joined]
         sorts.add(sort)
         lines += [
             f'pub v{i} : Vector ({sort} "{settings.hex()}"',
@@ -93,7 +93,7 @@ def module(first, vectors):
             f"v{i} = record {{ outcome = refl; size = refl }}",
             "",
         ]
-    lines.insert(4, "use Rattle·vectors·specs.specs.Vector.{Vector, " + ", ".join(sorted(sorts)) + ", hex}")
+    lines.insert(4, "use Rattle.vectors.specs.Vector.{Vector, " + ", ".join(sorted(sorts)) + ", hex}")
     return "\n".join(lines)
 
 
@@ -104,7 +104,7 @@ def unquoted(text):
 def print_lines():
     """The vectors of the crate, as they came from the oracle."""
     quote = r'"((?:[^"\\]|\\.)*)"'
-    pattern = re.compile(r"Vector\s*\((unit|expr|joined-expr)\s+" + r"\s+".join([quote] * 4) + r"\)")
+    pattern = re.compile(r"Vector\s*\((unit|expr|joined_expr)\s+" + r"\s+".join([quote] * 4) + r"\)")
     for path in sorted(glob.glob(FOLDER + "/V*.antt")):
         with open(path, encoding="utf-8") as file:
             module_text = file.read()
@@ -112,7 +112,7 @@ def print_lines():
         if len(found) != len(re.findall(r"(?m)^pub v\d+ :", module_text)):
             sys.exit(f"{path} holds a vector that is not read")
         for sort, settings, records, names, text in found:
-            root, joined = {"unit": ("Unit", "2"), "expr": ("Expr", "0"), "joined-expr": ("Expr", "1")}[sort]
+            root, joined = {"unit": ("Unit", "2"), "expr": ("Expr", "0"), "joined_expr": ("Expr", "1")}[sort]
             print(root, settings, records, unquoted(names).hex() or "-", unquoted(text).hex() or "-", joined)
 
 

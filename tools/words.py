@@ -35,14 +35,14 @@ def text_of(file, function):
 
 
 # name in code and in laws, file of specs, list, the type of its entries, what makes a text of one (nothing: it is one)
-SECTIONS = [('type', 'Keyword', 'typeKeywords', 'String', ''),
-            ('qualifier', 'Word', 'qualifierWords', 'Word', 'wordText'),
-            ('jump', 'Word', 'jumpWords', 'Word', 'wordText'),
-            ('bool', 'Word', 'boolWords', 'Word', 'wordText'),
-            ('lone', 'Word', 'loneWords', 'Word', 'wordText'),
-            ('unary', 'Symbol', 'unaryOperators', 'Symbol', 'symbolText'),
-            ('binary', 'Symbol', 'binaryOperators', 'Symbol', 'symbolText'),
-            ('assignment', 'Symbol', 'assignmentOperators', 'Symbol', 'symbolText')]
+SECTIONS = [('type', 'Keyword', 'type_keywords', 'String', ''),
+            ('qualifier', 'Word', 'qualifier_words', 'Word', 'word_text'),
+            ('jump', 'Word', 'jump_words', 'Word', 'word_text'),
+            ('bool', 'Word', 'bool_words', 'Word', 'word_text'),
+            ('lone', 'Word', 'lone_words', 'Word', 'word_text'),
+            ('unary', 'Symbol', 'unary_operators', 'Symbol', 'symbol_text'),
+            ('binary', 'Symbol', 'binary_operators', 'Symbol', 'symbol_text'),
+            ('assignment', 'Symbol', 'assignment_operators', 'Symbol', 'symbol_text')]
 
 rows, starts, sizes, words_count = [], {}, {}, 0
 for name, file, entries, kind, function in SECTIONS:
@@ -53,8 +53,8 @@ for name, file, entries, kind, function in SECTIONS:
 words = rows[:words_count]
 
 # what a definition must unfold for all texts to be seen
-TEXTS = ('texts fixedWords typeKeywords otherWords qualifierWords jumpWords boolWords loneWords wordText'
-         ' operators symbolText unaryOperators binaryOperators assignmentOperators')
+TEXTS = ('texts fixed_words type_keywords other_words qualifier_words jump_words bool_words lone_words word_text'
+         ' operators symbol_text unary_operators binary_operators assignment_operators')
 
 
 # ---- what follows from it
@@ -154,51 +154,51 @@ def number(name, says, n):
 
 write('proofs/Listed.antt', '\n'.join([
     '-- How much there is of each, and the row at which each section begins. Written by tools/words.py. Assumes nothing.\nuse Prim.Native.Nat.{ℕ}\n',
-    number('types-count', 'how many type keywords there are', sizes['type']),
-    number('words-count', 'how many fixed words there are, these included', words_count),
-    number('rows-count', 'how many rows the table has', len(rows)),
-    number('first-slot', 'how many bytes these are, so where the slots begin', first_slot),
-    number('first-flaw', 'and where the flaws of the bytes begin', first_slot + SLOTS),
-    *(number(f'first-{name}', f'the section {entries}', starts[name]) for name, _, entries, _, _ in SECTIONS if name != 'type')]))
+    number('types_count', 'how many type keywords there are', sizes['type']),
+    number('words_count', 'how many fixed words there are, these included', words_count),
+    number('rows_count', 'how many rows the table has', len(rows)),
+    number('first_slot', 'how many bytes these are, so where the slots begin', first_slot),
+    number('first_flaw', 'and where the flaws of the bytes begin', first_slot + SLOTS),
+    *(number(f'first_{name}', f'the section {entries}', starts[name]) for name, _, entries, _, _ in SECTIONS if name != 'type')]))
 
 
 def row_law(name, file, entries, kind, function):
     """What stands in the rows of a section, by variant."""
     n, at = sizes[name], starts[name]
     if not function:
-        return (f'pub {name}-row : (v : ℕ) → v < {n} → textAt v ≡ bytes (getD {entries} v "")\nunfolding {TEXTS}\n'
-                f'{name}-row v h = ap textAt (sym (zero-add v)) ∙ section-text 0 {n} {entries} refl v h\n')
-    return (f'pub {name}-row : (v : ℕ) → v < {n} → (d : {kind}) → textAt ({at} + v) ≡ bytes ({function} (getD {entries} v d))\nunfolding {TEXTS}\n'
-            f'{name}-row v h d = section {function} {at} {entries} refl v h d\n')
+        return (f'pub {name}_row : (v : ℕ) → v < {n} → text_at v ≡ bytes (get_or {entries} v "")\nunfolding {TEXTS}\n'
+                f'{name}_row v h = ap text_at (sym (zero-add v)) ∙ section_text 0 {n} {entries} refl v h\n')
+    return (f'pub {name}_row : (v : ℕ) → v < {n} → (d : {kind}) → text_at ({at} + v) ≡ bytes ({function} (get_or {entries} v d))\nunfolding {TEXTS}\n'
+            f'{name}_row v h d = section {function} {at} {entries} refl v h d\n')
 
 
 def apart_law(name, entries, kind, function):
     """No two rows of a section have one text."""
     n, at = sizes[name], starts[name]
-    return (f'pub {name}-apart : (j k : ℕ) → j < {n} → k < {n} → textAt ({at} + j) ≡ textAt ({at} + k) → j ≡ k\n'
-            f'unfolding different oneOf same {TEXTS}\n{name}-apart = rows-apart {at} (map {function} {entries}) refl tt\n')
+    return (f'pub {name}_apart : (j k : ℕ) → j < {n} → k < {n} → text_at ({at} + j) ≡ text_at ({at} + k) → j ≡ k\n'
+            f'unfolding different one_of same {TEXTS}\n{name}_apart = rows_apart {at} (map {function} {entries}) refl tt\n')
 
 
 write('proofs/Sections.antt', '\n'.join([
     '''-- The rows by what they hold: a law for each section, over the variant; and that no two rows of a section have one text. Written by
 -- tools/words.py. Assumes nothing.
-use mathlib.Core.Path.{_≡_, refl, sym, _∙_, ap}
+use mathlib.Core.Path.{◌≡◌, refl, sym, ◌∙◌, ap}
 use mathlib.Core.List.{map}
-use Prim.Native.Nat.{ℕ, _+_, _<_}
+use Prim.Native.Nat.{ℕ, ◌+◌, ◌<◌}
 use native.Mathlib.Nat.{zero-add}
-use lib.ListN.{getD}
-use Rattle·words.specs.Bytes.{bytes}
-use Rattle·words.specs.Word.{Word, wordText, qualifierWords, jumpWords, boolWords, loneWords, otherWords}
-use Rattle·words.specs.Symbol.{Symbol, symbolText, unaryOperators, binaryOperators, assignmentOperators}
-use Rattle·words.specs.Keyword.{typeKeywords, fixedWords}
-use Rattle·words.specs.Form.{same, oneOf}
-use Rattle·word_table·specs.specs.Table.{operators, texts, textAt}
-use Rattle·word_table·proofs.proofs.Places.{section-text, section}
-use Rattle·word_table·proofs.proofs.Rule.{different, words-different, rows-apart}
+use lib.ListN.{get_or}
+use Rattle.words.specs.Bytes.{bytes}
+use Rattle.words.specs.Word.{Word, word_text, qualifier_words, jump_words, bool_words, lone_words, other_words}
+use Rattle.words.specs.Symbol.{Symbol, symbol_text, unary_operators, binary_operators, assignment_operators}
+use Rattle.words.specs.Keyword.{type_keywords, fixed_words}
+use Rattle.words.specs.Form.{same, one_of}
+use Rattle.word_table.specs.Table.{operators, texts, text_at}
+use Rattle.word_table.proofs.Places.{section_text, section}
+use Rattle.word_table.proofs.Rule.{different, words_different, rows_apart}
 ''',
     *(row_law(*s) for s in SECTIONS),
-    f'''pub word-apart : (j k : ℕ) → j < {words_count} → k < {words_count} → textAt j ≡ textAt k → j ≡ k
+    f'''pub word_apart : (j k : ℕ) → j < {words_count} → k < {words_count} → text_at j ≡ text_at k → j ≡ k
 unfolding {TEXTS}
-word-apart j k hj hk e = rows-apart 0 fixedWords refl words-different j k hj hk (ap textAt (zero-add j) ∙ e ∙ ap textAt (sym (zero-add k)))
+word_apart j k hj hk e = rows_apart 0 fixed_words refl words_different j k hj hk (ap text_at (zero-add j) ∙ e ∙ ap text_at (sym (zero-add k)))
 ''',
     *(apart_law(name, entries, kind, function) for name, file, entries, kind, function in SECTIONS if file == 'Symbol')]))
