@@ -24,7 +24,7 @@ THEOREMS = [
     ("reading", "Spaces", "Closed"),
 ]
 
-IMPORT = re.compile(r"^\s*(?:ghost |unfoldable |pub )*use Rattle·(\w+)(?:·specs)?\.specs\.([\w.-]+?)(?:\.\{(.*)\})?(?: as (\S+?))?;?$")
+IMPORT = re.compile(r"^\s*(?:ghost |unfoldable |pub )*use Rattle\.(\w+)\.specs\.([\w.]+?)(?:\.\{(.*)\})?(?: as (\S+?))?;?$")
 WORDS = re.compile(r"[^\s(){}\[\],;]+")
 
 
@@ -77,8 +77,8 @@ class Module:
     def begin(self, name, waiting, text):
         self.lines[name] = waiting + [text]
         self.owner[name] = name
-        if "_" in name and name != "_":
-            for part in name.split("_"):
+        if "◌" in name:
+            for part in name.split("◌"):
                 if part:
                     self.owner[part] = name
 
@@ -98,7 +98,7 @@ def take_import(text, imports, aliases):
             for name in (names or "").split(","):
                 plain, _, other = name.strip().partition(" as ")
                 if plain:
-                    imports[(other or plain).strip("_") if "_" in plain else (other or plain)] = (crate, module, plain)
+                    imports[(other or plain).strip("◌")] = (crate, module, plain)
     return True
 
 
@@ -138,7 +138,7 @@ def contracts(path, wanted):
     for found in re.finditer(r"^\s*(pub )?(?:extern \"C\" )?fn (\w+).*?^\s*\{$", source, re.M | re.S):
         public, name = found.group(1), found.group(2)
         if (wanted is None and public) or (wanted and name in wanted):
-            texts += re.findall(r"ensures \{(.*)\}", found.group(0))
+            texts += re.findall(r"ensures(?: \w+)? \{(.*)\}", found.group(0))
     return texts, imports, aliases
 
 
