@@ -45,7 +45,7 @@ ONLY_SPACED = {(MINUS, DEC), (PLUS, INC)}
 def type_words():
     """The type keywords by variant, off the list that the program's table is proved against."""
     with open(os.path.join(print_runs.ROOT, "crates/words/specs/Keyword.antt"), encoding="utf-8") as file:
-        listed = re.search(r"^typeKeywords =(.*?)\[\]", file.read(), re.M | re.S)[1]
+        listed = re.search(r"^type_keywords =(.*?)\[\]", file.read(), re.M | re.S)[1]
     return re.findall(r'"(\w+)"', re.sub("--.*", "", listed))
 
 

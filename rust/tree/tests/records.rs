@@ -70,13 +70,13 @@ fn the_blocks_are_what_the_table_says() {
 #[test]
 fn the_words_are_those_of_the_printer() {
     let (keywords, words) = (file("crates/words/specs/Keyword.antt"), file("crates/words/specs/Word.antt"));
-    let types: Vec<&str> = listed(&keywords, "typeKeywords").iter().map(|word| word.trim_matches('"')).collect();
+    let types: Vec<&str> = listed(&keywords, "type_keywords").iter().map(|word| word.trim_matches('"')).collect();
     assert_eq!(words_of(21), types);
-    let listed_words = |name: &str| spelled(&words, name, "wordText");
-    assert_eq!(words_of(29), listed_words("qualifierWords"));
-    assert_eq!(words_of(68), listed_words("jumpWords"));
-    assert_eq!(words_of(4), listed_words("boolWords"));
-    let others = ["qualifierWords", "jumpWords", "boolWords", "loneWords"].map(listed_words).concat();
+    let listed_words = |name: &str| spelled(&words, name, "word_text");
+    assert_eq!(words_of(29), listed_words("qualifier_words"));
+    assert_eq!(words_of(68), listed_words("jump_words"));
+    assert_eq!(words_of(4), listed_words("bool_words"));
+    let others = ["qualifier_words", "jump_words", "bool_words", "lone_words"].map(listed_words).concat();
     assert_eq!(fixed_words(), [words_of(21), others].concat());
 }
 
@@ -90,8 +90,8 @@ fn the_reserved_names_are_those_of_the_printer() {
 #[test]
 fn the_operators_are_those_of_the_printer() {
     let symbols = file("crates/words/specs/Symbol.antt");
-    for (kind, list) in [(7, "unaryOperators"), (8, "binaryOperators"), (10, "assignmentOperators")] {
-        assert_eq!(symbols_of(kind), spelled(&symbols, list, "symbolText"), "{list}");
+    for (kind, list) in [(7, "unary_operators"), (8, "binary_operators"), (10, "assignment_operators")] {
+        assert_eq!(symbols_of(kind), spelled(&symbols, list, "symbol_text"), "{list}");
     }
 }
 
@@ -134,9 +134,9 @@ fn the_settings_are_those_of_the_printer() {
 #[test]
 fn the_limits_are_those_of_the_printer() {
     let (check, form) = (file("crates/accept/specs/Check.antt"), file("crates/words/specs/Form.antt"));
-    let records = with_commas(number(&check, "most-records"));
-    let names = with_commas(number(&check, "most-name-bytes"));
-    let (name, float) = (number(&form, "longest-name"), number(&form, "longest-float"));
+    let records = with_commas(number(&check, "most_records"));
+    let names = with_commas(number(&check, "most_name_bytes"));
+    let (name, float) = (number(&form, "longest_name"), number(&form, "longest_float"));
     let document = document();
     for row in [
         format!("| records | 1 to {records} |"),
@@ -157,8 +157,8 @@ fn the_limits_are_those_of_the_printer() {
 fn the_limits_of_trees_are_those_of_the_printer() {
     let (check, form) = (file("crates/accept/specs/Check.antt"), file("crates/words/specs/Form.antt"));
     let ours = [MOST_RECORDS, MOST_NAMES, DEEPEST];
-    assert_eq!(ours, ["most-records", "most-name-bytes", "deepest"].map(|name| number(&check, name)));
-    for (name, holds, letter) in [("longest-name", Holds::Name, "x"), ("longest-float", Holds::Float, "1")] {
+    assert_eq!(ours, ["most_records", "most_name_bytes", "deepest"].map(|name| number(&check, name)));
+    for (name, holds, letter) in [("longest_name", Holds::Name, "x"), ("longest_float", Holds::Float, "1")] {
         let fits = |length: usize| has_form(letter.repeat(length).as_bytes(), holds, &fixed_words());
         let longest = number(&form, name);
         assert!(fits(longest) && !fits(longest + 1), "{name}");
