@@ -44,9 +44,12 @@ over_ci() {
     kit=$(dirname "$(rt doc)")
     set -- --crate-name "$crate" src/lib.rt --crate-type staticlib --links "$crate=" --extern "std=$kit/rlibs/std.rlib" -L "dependency=$kit/rlibs"
     for it in $(listed "$crate"); do
-        set -- "$@" --extern "$it=$root/crates/$it/out/rlib/$it.rlib"
+        rlib=$root/crates/$it/out/rlib/$it.rlib
+        [ -d "$root/crates/$it" ] || rlib=$kit/rlibs/$it.rlib
+        set -- "$@" --extern "$it=$rlib"
     done
     for it in $(below "$crate"); do
+        [ -d "$root/crates/$it" ] || continue # a library of the kit
         # (a stamp is of rt's other commands, whose libraries only they keep apart from older ones)
         if [ ! -d "$root/crates/$it/out/rlib/$it.rlib" ] || [ -e "$root/crates/$it/out/rlib/stamp" ]; then
             echo "staticlib: rt ci left no library $it here"
