@@ -19,7 +19,7 @@ CALLS = {
 # exact by the words of GLSL, and that promise 3 holds too where it answers no (crates/reading/proofs/Spaces.antt).
 THEOREMS = [
     ("reading", "Demand3", "Demand3"),
-    ("reading", "Demand3", "Demand3-of-00"),
+    ("reading", "Demand3", "Demand3Of00"),
     ("lexis", "Preprocessing", "Between"),
     ("reading", "Spaces", "Closed"),
 ]

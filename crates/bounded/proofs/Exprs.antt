@@ -15,7 +15,7 @@ use Rattle.text.specs.Command.{symbol}
 use Rattle.text.specs.Tree.{Expr, Exprs, FunIdentifier}
 use Rattle.text.specs.Text.{a_token, show_int, show_expr, show_exprs, show_function_identifier}
 use Rattle.text.specs.Reading.{first_kind, expr_of, unary_op_of, binary_op_of, assignment_op}
-use Rattle.formed.specs.Formed.{Formed-expr, Formed-exprs, Formed-callee}
+use Rattle.formed.specs.Formed.{FormedExpr, FormedExprs, FormedCallee}
 use Rattle.bounded.proofs.Weight.{weighs}
 use Rattle.bounded.proofs.Texts.{name_short, float_short}
 use Rattle.bounded.proofs.Fits.{between, sums}
@@ -32,20 +32,20 @@ weighs_int n = go (negative n)
 
 module _ {collapse : Bool} where
   unfoldable arguments : ℕ → Part collapse Exprs
-  unfolding Formed-exprs show_exprs weighs
+  unfolding FormedExprs show_exprs weighs
   arguments =
-      list expr Exprs.no_exprs Exprs.exprs Formed-exprs show_exprs (λ f h. omega arith)
+      list expr Exprs.no_exprs Exprs.exprs FormedExprs show_exprs (λ f h. omega arith)
       (λ x a y b f h. simp sums (omega (arith, a.weight, (b false).weight h.1)))
 
   unfoldable callee : Part collapse FunIdentifier
-  unfolding Formed-callee show_function_identifier weighs reading Holds
-  callee = part (light (λ L all. (either {Formed = Formed-callee} {show = show_function_identifier} {more = 0} (eqb (first_kind L) 20)
+  unfolding FormedCallee show_function_identifier weighs reading Holds
+  callee = part (light (λ L all. (either {Formed = FormedCallee} {show = show_function_identifier} {more = 0} (eqb (first_kind L) 20)
       (parts (give FunIdentifier.OfType and type) (λ x a h. omega (arith, a.weight h)))
       (parts (give FunIdentifier.OfExpr and expr) (λ x a h. omega (arith, a.weight h)))).light L all))
 
 module _ (collapse : Bool) (ns : List ℕ) (r : Record) where
-  pub exprs_fit : Light collapse Formed-expr show_expr between (expr_of ns r)
-  unfolding expr_of arguments callee show_expr Formed-expr weighs reading Holds
+  pub exprs_fit : Light collapse FormedExpr show_expr between (expr_of ns r)
+  unfolding expr_of arguments callee show_expr FormedExpr weighs reading Holds
   exprs_fit =
       kind r 1 (row (give (Expr.Variable (text_of ns r))) (λ h. omega (arith, name_short)))
       (kind r 2 (row (give (Expr.IntConst r.a)) (λ h. omega (arith, weighs_int r.a)))

@@ -12,7 +12,7 @@ use Rattle.text.specs.Command.{Command, symbol, exit_block, exit_collapsed_compo
 use Rattle.text.specs.Reading as Reading
 use Rattle.text.specs.Reading.{Read, Item}
 use Rattle.text.specs.Text.{bare_if, apart, parenthesized, separator, braced_or_collapsed, space_between, show_expr, show_type_specifier, show_type_specifier_non_array, show_array_spec, show_dimension, show_struct_field, show_arrayed_identifier, show_type_qualifier, show_type_qualifier_spec, show_layout_qualifier_spec, show_fully_specified_type, show_function_prototype, show_function_parameter_declaration, show_init_declarator_list, show_single_declaration, show_single_declaration_no_type, show_initializer, show_block, show_declaration, show_statements, show_statement, show_condition, show_for_init_statement, show_external_declaration, show_translation_unit}
-use Rattle.formed.specs.Formed.{Formed-expr, Formed-type, Formed-base, Formed-dimensions, Formed-dimension, Formed-field, Formed-identifier, Formed-qualifier, Formed-spec, Formed-id, Formed-full-type, Formed-prototype, Formed-parameter, Formed-declarators, Formed-single, Formed-declarator, Formed-initializer, Formed-block, Formed-declaration, Formed-statements, Formed-statement, Formed-condition, Formed-for-init, Formed-external, Formed-unit}
+use Rattle.formed.specs.Formed.{FormedExpr, FormedType, FormedBase, FormedDimensions, FormedDimension, FormedField, FormedIdentifier, FormedQualifier, FormedSpec, FormedId, FormedFullType, FormedPrototype, FormedParameter, FormedDeclarators, FormedSingle, FormedDeclarator, FormedInitializer, FormedBlock, FormedDeclaration, FormedStatements, FormedStatement, FormedCondition, FormedForInit, FormedExternal, FormedUnit}
 use Rattle.bounded.proofs.Weight.{level_weight, record_weight, line_weight, weighs, weighs_append}
 
 -- a formed tree's commands, and so much more for what stands around them, weigh no more than its records may
@@ -33,31 +33,31 @@ own_line = line_weight + between
 
 -- what stands first of some records fits as every sort of tree that it can be
 pub record Fit (collapse : Bool) (L : List Item) : Type 0 where
-  pub expr : Fits Formed-expr show_expr between (Reading.expr L)
-  pub type : Fits Formed-type show_type_specifier between (Reading.type L)
-  pub base : Fits Formed-base show_type_specifier_non_array 0 (Reading.base L)
-  pub array : Fits Formed-dimensions show_array_spec 0 (Reading.array L)
-  pub dimension : Fits Formed-dimension show_dimension 0 (Reading.dimension L)
-  pub field : Fits Formed-field show_struct_field own_line (Reading.field L)
-  pub identifier : Fits Formed-identifier show_arrayed_identifier between (Reading.identifier L)
-  pub qualifier : Fits Formed-qualifier (λ q. show_type_qualifier q true) between (Reading.qualifier L)
-  pub spec : Fits Formed-spec show_type_qualifier_spec between (Reading.spec L)
-  pub layout_id : Fits Formed-id show_layout_qualifier_spec between (Reading.layout_id L)
-  pub full_type : Fits Formed-full-type show_fully_specified_type 0 (Reading.full_type L)
-  pub prototype : Fits Formed-prototype show_function_prototype 0 (Reading.prototype L)
-  pub parameter : Fits Formed-parameter show_function_parameter_declaration between (Reading.parameter L)
-  pub declarators : Fits Formed-declarators show_init_declarator_list 0 (Reading.declarators L)
-  pub single : Fits Formed-single show_single_declaration 0 (Reading.single L)
-  pub declarator : Fits Formed-declarator show_single_declaration_no_type between (Reading.declarator L)
-  pub initializer : Fits Formed-initializer show_initializer between (Reading.initializer L)
-  pub block : Fits Formed-block show_block 0 (Reading.block L)
-  pub declaration : Fits Formed-declaration show_declaration own_line (Reading.declaration L)
-  pub compound : Fits Formed-statements (show_statements collapse) 0 (Reading.compound L)
-  pub statement : Fits Formed-statement (show_statement collapse) 0 (Reading.statement L)
-  pub condition : Fits Formed-condition show_condition 0 (Reading.condition L)
-  pub for_init : Fits Formed-for-init show_for_init_statement 0 (Reading.for_init L)
-  pub external : Fits Formed-external (show_external_declaration collapse) 0 (Reading.external L)
-  pub unit : Fits Formed-unit (show_translation_unit collapse) 0 (Reading.unit L)
+  pub expr : Fits FormedExpr show_expr between (Reading.expr L)
+  pub type : Fits FormedType show_type_specifier between (Reading.type L)
+  pub base : Fits FormedBase show_type_specifier_non_array 0 (Reading.base L)
+  pub array : Fits FormedDimensions show_array_spec 0 (Reading.array L)
+  pub dimension : Fits FormedDimension show_dimension 0 (Reading.dimension L)
+  pub field : Fits FormedField show_struct_field own_line (Reading.field L)
+  pub identifier : Fits FormedIdentifier show_arrayed_identifier between (Reading.identifier L)
+  pub qualifier : Fits FormedQualifier (λ q. show_type_qualifier q true) between (Reading.qualifier L)
+  pub spec : Fits FormedSpec show_type_qualifier_spec between (Reading.spec L)
+  pub layout_id : Fits FormedId show_layout_qualifier_spec between (Reading.layout_id L)
+  pub full_type : Fits FormedFullType show_fully_specified_type 0 (Reading.full_type L)
+  pub prototype : Fits FormedPrototype show_function_prototype 0 (Reading.prototype L)
+  pub parameter : Fits FormedParameter show_function_parameter_declaration between (Reading.parameter L)
+  pub declarators : Fits FormedDeclarators show_init_declarator_list 0 (Reading.declarators L)
+  pub single : Fits FormedSingle show_single_declaration 0 (Reading.single L)
+  pub declarator : Fits FormedDeclarator show_single_declaration_no_type between (Reading.declarator L)
+  pub initializer : Fits FormedInitializer show_initializer between (Reading.initializer L)
+  pub block : Fits FormedBlock show_block 0 (Reading.block L)
+  pub declaration : Fits FormedDeclaration show_declaration own_line (Reading.declaration L)
+  pub compound : Fits FormedStatements (show_statements collapse) 0 (Reading.compound L)
+  pub statement : Fits FormedStatement (show_statement collapse) 0 (Reading.statement L)
+  pub condition : Fits FormedCondition show_condition 0 (Reading.condition L)
+  pub for_init : Fits FormedForInit show_for_init_statement 0 (Reading.for_init L)
+  pub external : Fits FormedExternal (show_external_declaration collapse) 0 (Reading.external L)
+  pub unit : Fits FormedUnit (show_translation_unit collapse) 0 (Reading.unit L)
 
 -- each of some records does
 abbrev pub AllFit : Bool → List Item → Type 0

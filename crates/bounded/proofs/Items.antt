@@ -7,7 +7,7 @@ use Rattle.records.specs.declared.Record.{Record}
 use Rattle.records.specs.Record.{record_at, record_count}
 use Rattle.text.specs.Text.{show_array_spec, show_statements, show_translation_unit}
 use Rattle.text.specs.Reading.{Item, first, item_of, onto, items, from}
-use Rattle.formed.specs.Formed.{Formed-expr, Formed-full-type, Formed-prototype, Formed-parameter, Formed-declarators, Formed-single, Formed-declarator, Formed-initializer, Formed-block, Formed-declaration, Formed-statement, Formed-condition, Formed-for-init, Formed-external}
+use Rattle.formed.specs.Formed.{FormedExpr, FormedFullType, FormedPrototype, FormedParameter, FormedDeclarators, FormedSingle, FormedDeclarator, FormedInitializer, FormedBlock, FormedDeclaration, FormedStatement, FormedCondition, FormedForInit, FormedExternal}
 use Rattle.bounded.proofs.Weight.{weighs}
 use Rattle.bounded.proofs.Fits.{fits, Fit, AllFit}
 use Rattle.bounded.proofs.Exprs.{exprs_fit}
@@ -18,7 +18,7 @@ use Rattle.bounded.proofs.Statements.{compounds_fit, statements_fit, conditions_
 module _ (collapse : Bool) where
   -- what is no record is not formed, or writes nothing
   nothing_fits : Fit collapse []
-  unfolding first Formed-expr Formed-full-type Formed-prototype Formed-parameter Formed-declarators Formed-single Formed-declarator Formed-initializer Formed-block Formed-declaration Formed-statement Formed-condition Formed-for-init Formed-external show_array_spec show_statements show_translation_unit weighs
+  unfolding first FormedExpr FormedFullType FormedPrototype FormedParameter FormedDeclarators FormedSingle FormedDeclarator FormedInitializer FormedBlock FormedDeclaration FormedStatement FormedCondition FormedForInit FormedExternal show_array_spec show_statements show_translation_unit weighs
   nothing_fits = record {
     expr = fits (λ h. absurd h);
     type = fits (λ h. absurd h);

@@ -9,7 +9,7 @@ use Rattle.text.specs.Command.{Command}
 use Rattle.text.specs.Tree.{Identifier, ArraySpecifier, Qualification}
 use Rattle.text.specs.Text.{show_declared, show_array_spec, show_qualification, show_identifier, optional}
 use Rattle.text.specs.Reading as Reading
-use Rattle.formed.specs.Formed.{Name, IfThere, Formed-dimensions, Formed-qualification}
+use Rattle.formed.specs.Formed.{Name, IfThere, FormedDimensions, FormedQualification}
 use Rattle.bounded.proofs.Weight.{weighs}
 use Rattle.bounded.proofs.Texts.{name_short}
 use Rattle.bounded.proofs.Fits.{sums}
@@ -27,7 +27,7 @@ weighs_declared none h = omega arith
 weighs_declared (some s) h = omega (arith, name_short)
 
 module _ {collapse : Bool} where
-  pub array_light : (b : Bool) → Light collapse Formed-dimensions show_array_spec 0 (Reading.array_if b)
+  pub array_light : (b : Bool) → Light collapse FormedDimensions show_array_spec 0 (Reading.array_if b)
   unfolding show_array_spec weighs reading Holds
   array_light true = array.fits
   array_light false = parts (give ArraySpecifier.no_dimensions) (λ h. omega arith)
@@ -35,8 +35,8 @@ module _ {collapse : Bool} where
   abbrev pub array_if : Bool → Part collapse ArraySpecifier
   array_if b = part (array_light b)
 
-  pub qualification_light : (b : Bool) → Light collapse Formed-qualification show_qualification 0 (Reading.qualification_if b)
-  unfolding Formed-qualification show_qualification weighs reading Holds
+  pub qualification_light : (b : Bool) → Light collapse FormedQualification show_qualification 0 (Reading.qualification_if b)
+  unfolding FormedQualification show_qualification weighs reading Holds
   qualification_light true = parts (give Qualification.qualified and qualifier) (λ x a h. simp sums (omega (arith, a.weight h)))
   qualification_light false = parts (give Qualification.unqualified) (λ h. omega arith)
 

@@ -35,7 +35,7 @@ use Rattle.text.specs.Operator.{postfix_precedence, ternary_precedence, assignme
 use Rattle.text.specs.Joins.{sign_if, sign, joins, joins_under, joins_right, is_int}
 use Rattle.text.specs.Text.{bool_word, a_token, a_word, a_space, a_symbol, bare_if, apart, optional, show_identifier, show_int, show_expr, show_exprs, show_function_identifier, show_type_specifier, show_type_specifiers, show_type_specifier_non_array, show_struct_fields, show_struct_field, show_arrayed_identifiers, show_arrayed_identifier, show_qualification, show_type_qualifier, show_type_qualifier_spec, show_layout_ids, show_layout_qualifier_spec, show_array_spec, show_dimension}
 use Rattle.text.specs.Visible.{tokens_of}
-use Rattle.formed.specs.Formed.{Name, IfThere, Formed-expr, Formed-exprs, Formed-callee, Formed-type, Formed-types, Formed-base, Formed-fields, Formed-field, Formed-some-identifiers, Formed-identifiers, Formed-identifier, Formed-qualification, Formed-qualifier, Formed-specs, Formed-spec, Formed-layout, Formed-ids, Formed-id, Formed-dimensions, Formed-dimension}
+use Rattle.formed.specs.Formed.{Name, IfThere, FormedExpr, FormedExprs, FormedCallee, FormedType, FormedTypes, FormedBase, FormedFields, FormedField, FormedSomeIdentifiers, FormedIdentifiers, FormedIdentifier, FormedQualification, FormedQualifier, FormedSpecs, FormedSpec, FormedLayout, FormedIds, FormedId, FormedDimensions, FormedDimension}
 use Rattle.formed.proofs.Signs.{Starts, starts_bare, expr_starts}
 use Rattle.formed.proofs.Declared.{if_declared}
 use Rattle.grammar.proofs.Ladder.{ladder}
@@ -92,23 +92,23 @@ module _ (wide : Bool) (passes : List ℕ → Bool) {L : List ℕ → Token → 
   Divided i o cs = Part wide L W s (Ends i o) cs
 
   -- an operand, bare or not, begins with the sign of its expression
-  operand_starts : (e : Expr) → Formed-expr e → (bare : Bool) → Starts (sign_if bare (sign e)) (bare_if bare (show_expr e))
+  operand_starts : (e : Expr) → FormedExpr e → (bare : Bool) → Starts (sign_if bare (sign e)) (bare_if bare (show_expr e))
   operand_starts e f bare = starts_bare bare (expr_starts e f)
 
   -- so where the two are not read as one the operand stands clear behind its operator, and behind an assignment's it always does
-  unary_clear : (op : UnaryOp) (e : Expr) → Formed-expr e → joins_under op e ≡ false → (x : FormattingState) (rest : List ℕ) → Clear wide (Token.symbol (unary_symbol op)) (text s (bare_if (bare_operand op e) (show_expr e)) x ++ rest)
+  unary_clear : (op : UnaryOp) (e : Expr) → FormedExpr e → joins_under op e ≡ false → (x : FormattingState) (rest : List ℕ) → Clear wide (Token.symbol (unary_symbol op)) (text s (bare_if (bare_operand op e) (show_expr e)) x ++ rest)
   unfolding joins
   unary_clear op e f j =
       let h = operand_starts e f (bare_operand op e) in
       started h s (λ bs. Clear wide (Token.symbol (unary_symbol op)) bs) (λ bs. unary_behind wide (sign_if (bare_operand op e) (sign e)) h.byte bs h.fronts h.same op j)
 
-  binary_clear : (op : BinaryOp) (r : Expr) → Formed-expr r → joins_right op r ≡ false → (x : FormattingState) (rest : List ℕ) → Clear wide (Token.symbol (binary_symbol op)) (text s (bare_if (bare_right op r) (show_expr r)) x ++ rest)
+  binary_clear : (op : BinaryOp) (r : Expr) → FormedExpr r → joins_right op r ≡ false → (x : FormattingState) (rest : List ℕ) → Clear wide (Token.symbol (binary_symbol op)) (text s (bare_if (bare_right op r) (show_expr r)) x ++ rest)
   unfolding joins
   binary_clear op r f j =
       let h = operand_starts r f (bare_right op r) in
       started h s (λ bs. Clear wide (Token.symbol (binary_symbol op)) bs) (λ bs. binary_behind wide (sign_if (bare_right op r) (sign r)) h.byte bs h.fronts h.same op j)
 
-  pub value_clear : (op : AssignmentOp) (e : Expr) → Formed-expr e → (bare : Bool) → (x : FormattingState) (rest : List ℕ) → Clear wide (Token.symbol (assignment_symbol op)) (text s (bare_if bare (show_expr e)) x ++ rest)
+  pub value_clear : (op : AssignmentOp) (e : Expr) → FormedExpr e → (bare : Bool) → (x : FormattingState) (rest : List ℕ) → Clear wide (Token.symbol (assignment_symbol op)) (text s (bare_if bare (show_expr e)) x ++ rest)
   value_clear op e f bare =
       let h = operand_starts e f bare in
       started h s (λ bs. Clear wide (Token.symbol (assignment_symbol op)) bs) (λ bs. assignment_clear wide op h.byte bs h.fronts)
@@ -163,9 +163,9 @@ module _ (wide : Bool) (passes : List ℕ → Bool) {L : List ℕ → Token → 
 
   -- one part for each printer
   mutual
-    unfolding Formed-expr Kept show_expr assignment_symbol precedence is_int is_other text written spell symbol_text symbol_lengthens name_byte letter digit
+    unfolding FormedExpr Kept show_expr assignment_symbol precedence is_int is_other text written spell symbol_text symbol_lengthens name_byte letter digit
 
-    part : (e : Expr) → Formed-expr e → Kept wide passes s e → Divided (ends_whole e) (ends_other e) (show_expr e)
+    part : (e : Expr) → FormedExpr e → Kept wide passes s e → Divided (ends_whole e) (ends_other e) (show_expr e)
     part no_expr f t = absurd f
     part (Variable n) f t = name_part n f t
     part (IntConst n) f t = int_part n f
@@ -199,71 +199,71 @@ module _ (wide : Bool) (passes : List ℕ → Bool) {L : List ℕ → Token → 
     part (PostDec e) f t = behind law ok.symbols dec_op refl refl (bare (ltb (precedence e) postfix_precedence) (part e f t))
     part (Comma a b) f t = separated law ok.symbols (bare (leb (precedence a) comma_precedence) (part a f.0 t.0)) (bare (ltb (precedence b) comma_precedence) (part b f.1 t.1))
 
-    arguments : (es : Exprs) → Formed-exprs es → KeptArguments wide passes s es → Divided true true (show_exprs es true)
+    arguments : (es : Exprs) → FormedExprs es → KeptArguments wide passes s es → Divided true true (show_exprs es true)
     arguments no_exprs f t = nothing
     arguments (exprs e es) f t = more_arguments es f.1 t.1 (loosen (part e f.0 t.0))
 
     -- behind the arguments before them (so too in the lists below)
-    more_arguments : (es : Exprs) → Formed-exprs es → KeptArguments wide passes s es → {cs : List Command} → Divided true true cs → Divided true true (cs ++ show_exprs es false)
+    more_arguments : (es : Exprs) → FormedExprs es → KeptArguments wide passes s es → {cs : List Command} → Divided true true cs → Divided true true (cs ++ show_exprs es false)
     more_arguments no_exprs f t {cs = cs} p = rw (append-nil cs) p
     more_arguments (exprs e es) f t {cs = cs} p = regroup cs write_list_separator (show_expr e) (show_exprs es false) (more_arguments es f.1 t.1 (separated law ok.symbols p (loosen (part e f.0 t.0))))
 
-    callee_part : (c : FunIdentifier) → Formed-callee c → KeptCallee wide passes s c → Divided true true (show_function_identifier c)
+    callee_part : (c : FunIdentifier) → FormedCallee c → KeptCallee wide passes s c → Divided true true (show_function_identifier c)
     callee_part (OfType t) f h = loosen (type_part t f h)
     callee_part (OfExpr e) f h = loosen (part e f h)
 
-    pub type_part : (t : TypeSpecifier) → Formed-type t → KeptType wide passes s t → Divided false false (show_type_specifier t)
+    pub type_part : (t : TypeSpecifier) → FormedType t → KeptType wide passes s t → Divided false false (show_type_specifier t)
     type_part no_type f h = absurd f
     type_part (type b ds) f h = array_part ds f.1 h.1 (base_part b f.0 h.0)
 
-    base_part : (b : TypeSpecifierNonArray) → Formed-base b → KeptBase wide passes s b → Divided false false (show_type_specifier_non_array b)
+    base_part : (b : TypeSpecifierNonArray) → FormedBase b → KeptBase wide passes s b → Divided false false (show_type_specifier_non_array b)
     base_part no_base f h = absurd f
     base_part (Keyword v) f h = wider (λ u q. rw q tt) (a_part law (Token.type v) (ok.types v f))
     base_part (TypeName n) f h = name_part n f h
     base_part (Struct n fs) f h =
         word_part Word.struct onto a_gap and optional_name n (if_declared n f.0) h.0 onto block_opens law ok.symbols and fields_part fs f.1 h.1 and block_closes law ok.symbols
 
-    types_part : (ts : TypeSpecifiers) → Formed-types ts → KeptTypes wide passes s ts → Divided false false (show_type_specifiers ts true)
+    types_part : (ts : TypeSpecifiers) → FormedTypes ts → KeptTypes wide passes s ts → Divided false false (show_type_specifiers ts true)
     types_part TypeSpecifiers.no_types f h = nothing
     types_part (TypeSpecifiers.types t ts) f h = more_types ts f.1 h.1 (type_part t f.0 h.0)
 
-    more_types : (ts : TypeSpecifiers) → Formed-types ts → KeptTypes wide passes s ts → {cs : List Command} → Divided false false cs → Divided false false (cs ++ show_type_specifiers ts false)
+    more_types : (ts : TypeSpecifiers) → FormedTypes ts → KeptTypes wide passes s ts → {cs : List Command} → Divided false false cs → Divided false false (cs ++ show_type_specifiers ts false)
     more_types TypeSpecifiers.no_types f h {cs = cs} p = rw (append-nil cs) p
     more_types (TypeSpecifiers.types t ts) f h {cs = cs} p = regroup cs write_list_separator (show_type_specifier t) (show_type_specifiers ts false) (more_types ts f.1 h.1 (separated law ok.symbols p (type_part t f.0 h.0)))
 
-    pub fields_part : (fs : StructFieldSpecifiers) → Formed-fields fs → KeptFields wide passes s fs → Sealed wide L W s (show_struct_fields fs)
+    pub fields_part : (fs : StructFieldSpecifiers) → FormedFields fs → KeptFields wide passes s fs → Sealed wide L W s (show_struct_fields fs)
     fields_part StructFieldSpecifiers.no_fields f h = nothing
     fields_part (StructFieldSpecifiers.fields d fs) f h = blank_part refl (field_part d f.0 h.0) onto ended law ok.symbols refl and fields_part fs f.1 h.1
 
-    field_part : (d : StructFieldSpecifier) → Formed-field d → KeptField wide passes s d → Divided false false (show_struct_field d)
+    field_part : (d : StructFieldSpecifier) → FormedField d → KeptField wide passes s d → Divided false false (show_struct_field d)
     field_part StructFieldSpecifier.no_field f h = absurd f
     field_part (StructFieldSpecifier.field q t is) f h = qualification_part q f.0 h.0 and type_part t f.1 h.1 onto a_gap and some_identifiers_part is f.2 h.2
 
-    some_identifiers_part : (is : ArrayedIdentifiers) → Formed-some-identifiers is → KeptIdentifiers wide passes s is → Divided false false (show_arrayed_identifiers is true)
+    some_identifiers_part : (is : ArrayedIdentifiers) → FormedSomeIdentifiers is → KeptIdentifiers wide passes s is → Divided false false (show_arrayed_identifiers is true)
     some_identifiers_part ArrayedIdentifiers.no_identifiers f h = absurd f
     some_identifiers_part (ArrayedIdentifiers.identifiers i is) f h = more_identifiers is f.1 h.1 (identifier_part i f.0 h.0)
 
-    more_identifiers : (is : ArrayedIdentifiers) → Formed-identifiers is → KeptIdentifiers wide passes s is → {cs : List Command} → Divided false false cs → Divided false false (cs ++ show_arrayed_identifiers is false)
+    more_identifiers : (is : ArrayedIdentifiers) → FormedIdentifiers is → KeptIdentifiers wide passes s is → {cs : List Command} → Divided false false cs → Divided false false (cs ++ show_arrayed_identifiers is false)
     more_identifiers ArrayedIdentifiers.no_identifiers f h {cs = cs} p = rw (append-nil cs) p
     more_identifiers (ArrayedIdentifiers.identifiers i is) f h {cs = cs} p = regroup cs write_list_separator (show_arrayed_identifier i) (show_arrayed_identifiers is false) (more_identifiers is f.1 h.1 (separated law ok.symbols p (identifier_part i f.0 h.0)))
 
-    pub identifier_part : (i : ArrayedIdentifier) → Formed-identifier i → KeptIdentifier wide passes s i → Divided false false (show_arrayed_identifier i)
+    pub identifier_part : (i : ArrayedIdentifier) → FormedIdentifier i → KeptIdentifier wide passes s i → Divided false false (show_arrayed_identifier i)
     identifier_part ArrayedIdentifier.no_identifier f h = absurd f
     identifier_part (ArrayedIdentifier.arrayed i ds) f h = array_part ds f.1 h.1 (name_part i f.0 h.0)
 
-    pub qualification_part : (q : Qualification) → Formed-qualification q → KeptQualification wide passes s q → Sealed wide L W s (show_qualification q)
+    pub qualification_part : (q : Qualification) → FormedQualification q → KeptQualification wide passes s q → Sealed wide L W s (show_qualification q)
     qualification_part Qualification.unqualified f h = nothing
     qualification_part (Qualification.qualified q) f h = qualifier_part q f h onto a_gap
 
-    pub qualifier_part : (q : TypeQualifier) → Formed-qualifier q → KeptQualifier wide passes s q → Divided false false (show_type_qualifier q true)
+    pub qualifier_part : (q : TypeQualifier) → FormedQualifier q → KeptQualifier wide passes s q → Divided false false (show_type_qualifier q true)
     qualifier_part TypeQualifier.no_specs f h = absurd f
     qualifier_part (TypeQualifier.specs q qs) f h = more_specs qs f.1 h.1 (spec_part q f.0 h.0)
 
-    more_specs : (qs : TypeQualifier) → Formed-specs qs → KeptQualifier wide passes s qs → {cs : List Command} → Divided false false cs → Divided false false (cs ++ show_type_qualifier qs false)
+    more_specs : (qs : TypeQualifier) → FormedSpecs qs → KeptQualifier wide passes s qs → {cs : List Command} → Divided false false cs → Divided false false (cs ++ show_type_qualifier qs false)
     more_specs TypeQualifier.no_specs f h {cs = cs} p = rw (append-nil cs) p
     more_specs (TypeQualifier.specs q qs) f h {cs = cs} p = regroup cs a_space (show_type_qualifier_spec q) (show_type_qualifier qs false) (more_specs qs f.1 h.1 (p onto a_gap and spec_part q f.0 h.0))
 
-    pub spec_part : (q : TypeQualifierSpec) → Formed-spec q → KeptSpec wide passes s q → Divided false false (show_type_qualifier_spec q)
+    pub spec_part : (q : TypeQualifierSpec) → FormedSpec q → KeptSpec wide passes s q → Divided false false (show_type_qualifier_spec q)
     spec_part TypeQualifierSpec.no_spec f h = absurd f
     spec_part (TypeQualifierSpec.Storage q) f h = word_part (Word.storage q)
     spec_part (TypeQualifierSpec.Subroutine ts) f h = subroutine_part ts (types_part ts f h)
@@ -273,33 +273,33 @@ module _ (wide : Bool) (passes : List ℕ → Bool) {L : List ℕ → Token → 
     spec_part TypeQualifierSpec.Invariant f h = word_part Word.invariant
     spec_part TypeQualifierSpec.Precise f h = word_part Word.precise
 
-    layout_part : (is : LayoutQualifier) → Formed-layout is → KeptIds wide passes s is → Divided true true (show_layout_ids is true)
+    layout_part : (is : LayoutQualifier) → FormedLayout is → KeptIds wide passes s is → Divided true true (show_layout_ids is true)
     layout_part LayoutQualifier.no_ids f h = absurd f
     layout_part (LayoutQualifier.ids i is) f h = more_ids is f.1 h.1 (id_part i f.0 h.0)
 
-    more_ids : (is : LayoutQualifier) → Formed-ids is → KeptIds wide passes s is → {cs : List Command} → Divided true true cs → Divided true true (cs ++ show_layout_ids is false)
+    more_ids : (is : LayoutQualifier) → FormedIds is → KeptIds wide passes s is → {cs : List Command} → Divided true true cs → Divided true true (cs ++ show_layout_ids is false)
     more_ids LayoutQualifier.no_ids f h {cs = cs} p = rw (append-nil cs) p
     more_ids (LayoutQualifier.ids i is) f h {cs = cs} p = regroup cs write_list_separator (show_layout_qualifier_spec i) (show_layout_ids is false) (more_ids is f.1 h.1 (separated law ok.symbols p (id_part i f.0 h.0)))
 
-    id_part : (i : LayoutQualifierSpec) → Formed-id i → KeptId wide passes s i → Divided true true (show_layout_qualifier_spec i)
+    id_part : (i : LayoutQualifierSpec) → FormedId i → KeptId wide passes s i → Divided true true (show_layout_qualifier_spec i)
     id_part LayoutQualifierSpec.no_id f h = absurd f
     id_part (LayoutQualifierSpec.Ident i) f h = loosen (name_part i f h)
     id_part (LayoutQualifierSpec.IdentIs i e) f h = loosen (between law ok.symbols equal refl (λ off. value_clear AssignmentOp.Equal e f.1 true) (name_part i f.0 h.0) (part e f.1 h.1))
     id_part LayoutQualifierSpec.Shared f h = loosen (word_part (Word.storage StorageQualifier.shared))
 
     -- the dimensions, behind what is before them
-    pub array_part : (ds : ArraySpecifier) → Formed-dimensions ds → KeptArray wide passes s ds → {cs : List Command} → Divided false false cs → Divided false false (cs ++ show_array_spec ds)
+    pub array_part : (ds : ArraySpecifier) → FormedDimensions ds → KeptArray wide passes s ds → {cs : List Command} → Divided false false cs → Divided false false (cs ++ show_array_spec ds)
     array_part no_dimensions f h {cs = cs} p = rw (append-nil cs) p
     array_part (dimensions d ds) f h {cs = cs} p = rw (sym (append_assoc cs (show_dimension d) (show_array_spec ds))) (array_part ds f.1 h.1 (dimension_part d f.0 h.0 p))
 
-    dimension_part : (d : ArraySpecifierDimension) → Formed-dimension d → KeptDimension wide passes s d → {cs : List Command} → Divided false false cs → Divided false false (cs ++ show_dimension d)
+    dimension_part : (d : ArraySpecifierDimension) → FormedDimension d → KeptDimension wide passes s d → {cs : List Command} → Divided false false cs → Divided false false (cs ++ show_dimension d)
     dimension_part no_dimension f h p = absurd f
     dimension_part Unsized f h p = indexed law ok.symbols p (nothing {E = Ends false false})
     dimension_part (ExplicitlySized e) f h p = indexed law ok.symbols p (part e f h)
 
-  pub expr_part : (e : Expr) → Formed-expr e → Kept wide passes s e → Divided true true (show_expr e)
+  pub expr_part : (e : Expr) → FormedExpr e → Kept wide passes s e → Divided true true (show_expr e)
   expr_part e f t = loosen (part e f t)
 
   -- the whole text
-  pub divided : (e : Expr) → Formed-expr e → Kept wide passes s e → (x : FormattingState) → Divides L W (text s (show_expr e) x) (tokens_of (show_expr e))
+  pub divided : (e : Expr) → FormedExpr e → Kept wide passes s e → (x : FormattingState) → Divides L W (text s (show_expr e) x) (tokens_of (show_expr e))
   divided e f t x = simp append-nil at ((expr_part e f t).join x [] [] (λ u q. tt) at_end)

@@ -19,7 +19,7 @@ use Rattle.text.specs.Whole.{unit_commands, expr_commands, unit_text, expr_text,
 use Rattle.text.specs.Reading.{Item}
 use Rattle.records.specs.declared.Record.{Record}
 use Rattle.text.specs.Joined.{joins_here, somewhere, joined_answer}
-use Rattle.formed.specs.Formed.{Formed-expr, Formed-unit}
+use Rattle.formed.specs.Formed.{FormedExpr, FormedUnit}
 use Rattle.formed.proofs.Formed.{unit_formed, unit_size, expr_formed, expr_size}
 use Rattle.lexis.specs.Glsl.{glsl_word, any, Splits}
 use Rattle.lexis.proofs.Exact.{exact}
@@ -70,7 +70,7 @@ module _ (settings rs ns : List ℕ) (byte : (p : ℕ) → get_or rs p 0 < 256) 
     abbrev pub e : Expr
     e = (expr (from rs ns 0)).tree
 
-    formed : Formed-expr e
+    formed : FormedExpr e
     formed = expr_formed rs ns byte m accepted
 
     asked : somewhere (needs_here s) (expr (from rs ns 0)).size rs ns 0 ≡ needs_space s rs ns
@@ -94,7 +94,7 @@ module _ (settings rs ns : List ℕ) (byte : (p : ℕ) → get_or rs p 0 < 256) 
     abbrev u : TranslationUnit
     u = (unit (from rs ns 0)).tree
 
-    unit_is_formed : Formed-unit u
+    unit_is_formed : FormedUnit u
     unit_is_formed = unit_formed rs ns byte m accepted
 
     asked_unit : somewhere (needs_here s) (unit (from rs ns 0)).size rs ns 0 ≡ needs_space s rs ns

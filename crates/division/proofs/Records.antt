@@ -85,13 +85,13 @@ module _ (s : Settings) (rs ns : List ℕ) where
   abbrev J : ℕ → ℕ → Bool
   J n i = somewhere (needs_here s) n rs ns i
 
-  J-split : (n m i : ℕ) → J (n + m) i ≡ J n i || J m (i + n)
+  JSplit : (n m i : ℕ) → J (n + m) i ≡ J n i || J m (i + n)
   unfolding somewhere
-  J-split zero m i = rw (zero-add, add-zero) refl
-  J-split (suc n) m i =
+  JSplit zero m i = rw (zero-add, add-zero) refl
+  JSplit (suc n) m i =
       let e : suc n + m ≡ suc (n + m) = omega arith in
       let f : i + suc n ≡ i + 1 + n = omega arith in
-      rw (e, f, J-split n m (i + 1)) (sym (or_assoc (needs_here s (record_at rs i) (from rs ns (i + 1))) (J n (i + 1)) (J m (i + 1 + n))))
+      rw (e, f, JSplit n m (i + 1)) (sym (or_assoc (needs_here s (record_at rs i) (from rs ns (i + 1))) (J n (i + 1)) (J m (i + 1 + n))))
 
   -- what is said of a reading at record i, and the part that it is
   abbrev Says : {A : Type 0} → (A → Type 0) → ℕ → Read A → Type 0
@@ -128,7 +128,7 @@ module _ (s : Settings) (rs ns : List ℕ) where
         let n = (f (from rs ns i)).size in
         let x = p (from rs ns (i + n)) in
         subst (λ (y : Read B). R y.tree (J y.size i)) (sym (and_at rs ns f p i))
-        (subst (R ((f (from rs ns i)).tree x.tree)) (sym (J-split n x.size i)) (h.holds i l (got (i + n) x (q.holds (i + n) (omega arith)))));
+        (subst (R ((f (from rs ns i)).tree x.tree)) (sym (JSplit n x.size i)) (h.holds i l (got (i + n) x (q.holds (i + n) (omega arith)))));
   }
 
   list : {A B : Type 0} {P : A → Type 0} {p : Reader A} {b : ℕ} (Q : B → Type 0) (n : ℕ) (end : B) (more : A → B → B) → Q end
@@ -185,8 +185,8 @@ module _ (s : Settings) (rs ns : List ℕ) where
   record Own {A : Type 0} (P : A → Type 0) (p : Reader A) (i : ℕ) : Type 0 where
     holds : Says P i (p (from rs ns (i + 1)))
 
-  abbrev If-kind : {A : Type 0} → (A → Type 0) → ℕ → Reader A → ℕ → Type 0
-  If-kind P m p i = (record_at rs i).kind ≡ m → Own P p i
+  abbrev IfKind : {A : Type 0} → (A → Type 0) → ℕ → Reader A → ℕ → Type 0
+  IfKind P m p i = (record_at rs i).kind ≡ m → Own P p i
 
   -- its variant, its count and its text
   abbrev v : ℕ → ℕ
@@ -203,7 +203,7 @@ module _ (s : Settings) (rs ns : List ℕ) where
   here m i = needs_here s (rec m (v i) 0 0 0) (from rs ns (i + 1))
 
   -- a record of kind m, before its parts
-  own : {A : Type 0} {i : ℕ} (P : A → Type 0) (m : ℕ) (p : Reader A) → Means (P (p (from rs ns (i + 1))).tree) (here m i || J (p (from rs ns (i + 1))).size (i + 1)) → If-kind P m (λ L. counted (p L)) i
+  own : {A : Type 0} {i : ℕ} (P : A → Type 0) (m : ℕ) (p : Reader A) → Means (P (p (from rs ns (i + 1))).tree) (here m i || J (p (from rs ns (i + 1))).size (i + 1)) → IfKind P m (λ L. counted (p L)) i
   unfolding somewhere
   own {i = i} P m p h e =
       let x = p (from rs ns (i + 1)) in
@@ -211,14 +211,14 @@ module _ (s : Settings) (rs ns : List ℕ) where
       record { holds = rw (q, e) h }
 
   -- the rows of a sort's table: a kind, a kind as another sort; a row before others; what is none of the sort
-  kind : {A : Type 0} {P : A → Type 0} {p : Reader A} {i : ℕ} (m : ℕ) → Ok (λ t j. Means (P t) (here m i || j)) p (i + 1) → If-kind P m (λ L. counted (p L)) i
+  kind : {A : Type 0} {P : A → Type 0} {p : Reader A} {i : ℕ} (m : ℕ) → Ok (λ t j. Means (P t) (here m i || j)) p (i + 1) → IfKind P m (λ L. counted (p L)) i
   kind {P = P} {p = p} m h = own P m p (there h)
 
-  as_sort : {A B : Type 0} {P : A → Type 0} {Q : B → Type 0} {p : Reader A} {i : ℕ} (m : ℕ) (f : A → B) → ((x : Got P) → Means (Q (f x.tree)) x.joined) → Own P p i → If-kind Q m (λ L. made f (p L)) i
+  as_sort : {A B : Type 0} {P : A → Type 0} {Q : B → Type 0} {p : Reader A} {i : ℕ} (m : ℕ) (f : A → B) → ((x : Got P) → Means (Q (f x.tree)) x.joined) → Own P p i → IfKind Q m (λ L. made f (p L)) i
   as_sort {p = p} {i = i} m f h k e = record { holds = h (got i (p (from rs ns (i + 1))) k.holds) }
 
   infixr 10 ◌else◌
-  ◌else◌ : {A : Type 0} {P : A → Type 0} {m : ℕ} {p q : Reader A} {i : ℕ} → If-kind P m p i → Own P q i → Own P (cond (eqb (record_at rs i).kind m) p q) i
+  ◌else◌ : {A : Type 0} {P : A → Type 0} {m : ℕ} {p q : Reader A} {i : ℕ} → IfKind P m p i → Own P q i → Own P (cond (eqb (record_at rs i).kind m) p q) i
   ◌else◌ {P = P} {m = m} {p = p} {q = q} {i = i} h k = record {
     holds = of_kind (λ n y. (record_at rs i).kind ≡ n → Says P i y) (from rs ns (i + 1)) (record_at rs i).kind m p q (λ e. (h e).holds) (λ d e. k.holds) refl;
   }

@@ -31,7 +31,7 @@ use Rattle.text.specs.Tree.ArraySpecifierDimension.{no_dimension, Unsized, Expli
 use Rattle.text.specs.Operator.{postfix_precedence, ternary_precedence, assignment_precedence, comma_precedence, binary_precedence, precedence, unary_symbol, binary_symbol, reads_as_one, bare_operand, bare_right}
 use Rattle.text.specs.Joins.{sign_if, sign, joins, joins_under, joins_right, is_int}
 use Rattle.text.specs.Text.{a_token, a_word, a_symbol, a_space, bare_if, apart, separator, space_between, show_int, show_identifier, optional, show_expr, show_exprs, show_function_identifier, show_type_specifier, show_type_specifiers, show_type_specifier_non_array, show_array_spec, show_dimension, show_struct_fields, show_struct_field, show_arrayed_identifier, show_arrayed_identifiers, show_qualification, show_type_qualifier, show_type_qualifier_spec, show_layout_ids, show_layout_qualifier_spec}
-use Rattle.formed.specs.Formed.{Each, Formed-expr, Formed-exprs, Formed-callee, Formed-type, Formed-types, Formed-base, Formed-dimensions, Formed-dimension, Formed-field, Formed-fields, Formed-identifier, Formed-identifiers, Formed-some-identifiers, Formed-qualification, Formed-qualifier, Formed-specs, Formed-spec, Formed-layout, Formed-ids, Formed-id}
+use Rattle.formed.specs.Formed.{Each, FormedExpr, FormedExprs, FormedCallee, FormedType, FormedTypes, FormedBase, FormedDimensions, FormedDimension, FormedField, FormedFields, FormedIdentifier, FormedIdentifiers, FormedSomeIdentifiers, FormedQualification, FormedQualifier, FormedSpecs, FormedSpec, FormedLayout, FormedIds, FormedId}
 use Rattle.formed.proofs.Doubled.{reads_by_sign}
 use Rattle.formed.proofs.Signs.{Starts, starts_bare, expr_starts}
 use Rattle.lexis.specs.Division.{Longest}
@@ -130,9 +130,9 @@ module _ (s : Settings) where
   subroutine_told (TypeSpecifiers.types x xs) t = last_told (a_word Word.subroutine) (within_told left_paren right_paren t)
 
   mutual
-    unfolding Formed-expr Kept show_expr joins
+    unfolding FormedExpr Kept show_expr joins
 
-    pub tells : (e : Expr) → Formed-expr e → Tells s (show_expr e) (Kept false any s e)
+    pub tells : (e : Expr) → FormedExpr e → Tells s (show_expr e) (Kept false any s e)
     tells no_expr f = always tt
     tells (Variable n) f = always refl
     tells (IntConst n) f = always tt
@@ -163,70 +163,70 @@ module _ (s : Settings) where
     tells (PostDec e) f = first_told (bare_told (ltb (precedence e) postfix_precedence) (tells e f)) _
     tells (Comma a b) f = first_told (bare_told (leb (precedence a) comma_precedence) (tells a f.0)) _ also bare_told (ltb (precedence b) comma_precedence) (tells b f.1)
 
-    tells_callee : (c : FunIdentifier) → Formed-callee c → Tells s (show_function_identifier c) (KeptCallee false any s c)
+    tells_callee : (c : FunIdentifier) → FormedCallee c → Tells s (show_function_identifier c) (KeptCallee false any s c)
     tells_callee (OfType t) f = tells_type t f
     tells_callee (OfExpr e) f = tells e f
 
-    tells_exprs : (es : Exprs) → Formed-exprs es → (first : Bool) → Tells s (show_exprs es first) (KeptArguments false any s es)
+    tells_exprs : (es : Exprs) → FormedExprs es → (first : Bool) → Tells s (show_exprs es first) (KeptArguments false any s es)
     tells_exprs no_exprs f first = always tt
     tells_exprs (exprs e es) f first = last_told (separator first) (tells e f.0) also tells_exprs es f.1 false
 
-    pub tells_type : (t : TypeSpecifier) → Formed-type t → Tells s (show_type_specifier t) (KeptType false any s t)
+    pub tells_type : (t : TypeSpecifier) → FormedType t → Tells s (show_type_specifier t) (KeptType false any s t)
     tells_type no_type f = always tt
     tells_type (type b ds) f = tells_base b f.0 also tells_array ds f.1
 
-    tells_types : (ts : TypeSpecifiers) → Formed-types ts → (first : Bool) → Tells s (show_type_specifiers ts first) (KeptTypes false any s ts)
+    tells_types : (ts : TypeSpecifiers) → FormedTypes ts → (first : Bool) → Tells s (show_type_specifiers ts first) (KeptTypes false any s ts)
     tells_types TypeSpecifiers.no_types f first = always tt
     tells_types (TypeSpecifiers.types t ts) f first = last_told (separator first) (tells_type t f.0) also tells_types ts f.1 false
 
-    tells_base : (b : TypeSpecifierNonArray) → Formed-base b → Tells s (show_type_specifier_non_array b) (KeptBase false any s b)
+    tells_base : (b : TypeSpecifierNonArray) → FormedBase b → Tells s (show_type_specifier_non_array b) (KeptBase false any s b)
     tells_base no_base f = always tt
     tells_base (Keyword v) f = always tt
     tells_base (TypeName n) f = always refl
     tells_base (Struct n fs) f = so_told (λ h. (any_name n, h)) (first_told (last_told (a_word Word.struct ++ a_space ++ optional show_identifier n ++ enter_block) (tells_fields fs f.1)) exit_block)
 
-    pub tells_array : (ds : ArraySpecifier) → Formed-dimensions ds → Tells s (show_array_spec ds) (KeptArray false any s ds)
+    pub tells_array : (ds : ArraySpecifier) → FormedDimensions ds → Tells s (show_array_spec ds) (KeptArray false any s ds)
     tells_array no_dimensions f = always tt
     tells_array (dimensions d ds) f = tells_dimension d f.0 also tells_array ds f.1
 
-    tells_dimension : (d : ArraySpecifierDimension) → Formed-dimension d → Tells s (show_dimension d) (KeptDimension false any s d)
+    tells_dimension : (d : ArraySpecifierDimension) → FormedDimension d → Tells s (show_dimension d) (KeptDimension false any s d)
     tells_dimension no_dimension f = always tt
     tells_dimension Unsized f = always tt
     tells_dimension (ExplicitlySized e) f = within_told left_bracket right_bracket (tells e f)
 
-    pub tells_fields : (fs : StructFieldSpecifiers) → Formed-fields fs → Tells s (show_struct_fields fs) (KeptFields false any s fs)
+    pub tells_fields : (fs : StructFieldSpecifiers) → FormedFields fs → Tells s (show_struct_fields fs) (KeptFields false any s fs)
     tells_fields StructFieldSpecifiers.no_fields f = always tt
     tells_fields (StructFieldSpecifiers.fields d fs) f = first_told (past (tells_field d f.0)) _ also tells_fields fs f.1
 
-    tells_field : (d : StructFieldSpecifier) → Formed-field d → Tells s (show_struct_field d) (KeptField false any s d)
+    tells_field : (d : StructFieldSpecifier) → FormedField d → Tells s (show_struct_field d) (KeptField false any s d)
     tells_field StructFieldSpecifier.no_field f = always tt
     tells_field (StructFieldSpecifier.field q t is) f = so_told (λ h. (h.0.0, h.0.1, h.1)) (first_told (tells_qualification q f.0 also tells_type t f.1) _ also tells_some_identifiers is f.2)
 
-    tells_some_identifiers : (is : ArrayedIdentifiers) → Formed-some-identifiers is → Tells s (show_arrayed_identifiers is true) (KeptIdentifiers false any s is)
+    tells_some_identifiers : (is : ArrayedIdentifiers) → FormedSomeIdentifiers is → Tells s (show_arrayed_identifiers is true) (KeptIdentifiers false any s is)
     tells_some_identifiers ArrayedIdentifiers.no_identifiers f = always tt
     tells_some_identifiers (ArrayedIdentifiers.identifiers i is) f = tells_identifier i f.0 also tells_identifiers is f.1
 
-    tells_identifiers : (is : ArrayedIdentifiers) → Formed-identifiers is → Tells s (show_arrayed_identifiers is false) (KeptIdentifiers false any s is)
+    tells_identifiers : (is : ArrayedIdentifiers) → FormedIdentifiers is → Tells s (show_arrayed_identifiers is false) (KeptIdentifiers false any s is)
     tells_identifiers ArrayedIdentifiers.no_identifiers f = always tt
     tells_identifiers (ArrayedIdentifiers.identifiers i is) f = last_told (separator false) (tells_identifier i f.0) also tells_identifiers is f.1
 
-    pub tells_identifier : (i : ArrayedIdentifier) → Formed-identifier i → Tells s (show_arrayed_identifier i) (KeptIdentifier false any s i)
+    pub tells_identifier : (i : ArrayedIdentifier) → FormedIdentifier i → Tells s (show_arrayed_identifier i) (KeptIdentifier false any s i)
     tells_identifier ArrayedIdentifier.no_identifier f = always tt
     tells_identifier (ArrayedIdentifier.arrayed i ds) f = so_told (λ h. (refl, h)) (last_told (show_identifier i) (tells_array ds f.1))
 
-    pub tells_qualification : (q : Qualification) → Formed-qualification q → Tells s (show_qualification q) (KeptQualification false any s q)
+    pub tells_qualification : (q : Qualification) → FormedQualification q → Tells s (show_qualification q) (KeptQualification false any s q)
     tells_qualification Qualification.unqualified f = always tt
     tells_qualification (Qualification.qualified q) f = first_told (tells_qualifier q f) a_space
 
-    pub tells_qualifier : (q : TypeQualifier) → Formed-qualifier q → Tells s (show_type_qualifier q true) (KeptQualifier false any s q)
+    pub tells_qualifier : (q : TypeQualifier) → FormedQualifier q → Tells s (show_type_qualifier q true) (KeptQualifier false any s q)
     tells_qualifier TypeQualifier.no_specs f = always tt
     tells_qualifier (TypeQualifier.specs q qs) f = tells_spec q f.0 also tells_specs qs f.1
 
-    tells_specs : (qs : TypeQualifier) → Formed-specs qs → Tells s (show_type_qualifier qs false) (KeptQualifier false any s qs)
+    tells_specs : (qs : TypeQualifier) → FormedSpecs qs → Tells s (show_type_qualifier qs false) (KeptQualifier false any s qs)
     tells_specs TypeQualifier.no_specs f = always tt
     tells_specs (TypeQualifier.specs q qs) f = last_told (space_between false) (tells_spec q f.0) also tells_specs qs f.1
 
-    pub tells_spec : (q : TypeQualifierSpec) → Formed-spec q → Tells s (show_type_qualifier_spec q) (KeptSpec false any s q)
+    pub tells_spec : (q : TypeQualifierSpec) → FormedSpec q → Tells s (show_type_qualifier_spec q) (KeptSpec false any s q)
     tells_spec TypeQualifierSpec.no_spec f = always tt
     tells_spec (TypeQualifierSpec.Storage q) f = always tt
     tells_spec (TypeQualifierSpec.Subroutine ts) f = subroutine_told ts (tells_types ts f true)
@@ -236,15 +236,15 @@ module _ (s : Settings) where
     tells_spec TypeQualifierSpec.Invariant f = always tt
     tells_spec TypeQualifierSpec.Precise f = always tt
 
-    tells_layout : (is : LayoutQualifier) → Formed-layout is → Tells s (show_layout_ids is true) (KeptIds false any s is)
+    tells_layout : (is : LayoutQualifier) → FormedLayout is → Tells s (show_layout_ids is true) (KeptIds false any s is)
     tells_layout LayoutQualifier.no_ids f = always tt
     tells_layout (LayoutQualifier.ids i is) f = tells_id i f.0 also tells_ids is f.1
 
-    tells_ids : (is : LayoutQualifier) → Formed-ids is → Tells s (show_layout_ids is false) (KeptIds false any s is)
+    tells_ids : (is : LayoutQualifier) → FormedIds is → Tells s (show_layout_ids is false) (KeptIds false any s is)
     tells_ids LayoutQualifier.no_ids f = always tt
     tells_ids (LayoutQualifier.ids i is) f = last_told (separator false) (tells_id i f.0) also tells_ids is f.1
 
-    tells_id : (i : LayoutQualifierSpec) → Formed-id i → Tells s (show_layout_qualifier_spec i) (KeptId false any s i)
+    tells_id : (i : LayoutQualifierSpec) → FormedId i → Tells s (show_layout_qualifier_spec i) (KeptId false any s i)
     tells_id LayoutQualifierSpec.no_id f = always tt
     tells_id (LayoutQualifierSpec.Ident i) f = always refl
     tells_id (LayoutQualifierSpec.IdentIs i e) f = so_told (λ h. (refl, h)) (last_told (show_identifier i ++ write_binary_op equal) (tells e f.1))

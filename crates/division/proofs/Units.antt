@@ -19,7 +19,7 @@ use Rattle.text.specs.Tree.{Identifier, AssignmentOp, Expr, TypeSpecifier, Array
 use Rattle.text.specs.Operator.{assignment_symbol}
 use Rattle.text.specs.Text.{optional, a_symbol, a_word, show_identifier, show_expr, show_type_specifier, show_arrayed_identifier, show_qualification, show_fully_specified_type, show_function_parameter_declaration, show_parameters, show_function_prototype, show_initializer, show_initializers, show_declared, show_initialized, show_single_declaration, show_single_declaration_no_type, show_tail, show_init_declarator_list, show_block, show_declaration, show_condition, show_for_init_statement, show_jump_statement, single_item, braced_or_collapsed, show_statement, show_statements, show_function_definition, show_external_declaration, show_translation_unit}
 use Rattle.text.specs.Visible.{tokens_of}
-use Rattle.formed.specs.Formed.{Name, IfThere, Each, Formed-expr, Formed-type, Formed-identifier, Formed-qualification, Formed-full-type, Formed-parameter, Formed-prototype, Formed-initializer, Formed-some-initializers, Formed-initializers, Formed-single, Formed-declarator, Formed-declarators, Formed-block, Formed-declaration, Formed-condition, Formed-for-init, Formed-jump, Formed-statement, Formed-statements, Formed-external, Formed-unit}
+use Rattle.formed.specs.Formed.{Name, IfThere, Each, FormedExpr, FormedType, FormedIdentifier, FormedQualification, FormedFullType, FormedParameter, FormedPrototype, FormedInitializer, FormedSomeInitializers, FormedInitializers, FormedSingle, FormedDeclarator, FormedDeclarators, FormedBlock, FormedDeclaration, FormedCondition, FormedForInit, FormedJump, FormedStatement, FormedStatements, FormedExternal, FormedUnit}
 use Rattle.formed.proofs.Precision.{precision_formed}
 use Rattle.formed.proofs.Declared.{parameter_formed}
 use Rattle.lexis.specs.Division.{Divides}
@@ -47,7 +47,7 @@ module _ (wide : Bool) (passes : List ℕ → Bool) {L : List ℕ → Token → 
   loosen p = wider (ends_wider false false) p
 
   -- the parts of expressions and types that are used most
-  an_expr : (e : Expr) → Formed-expr e → Kept wide passes s e → Divided (show_expr e)
+  an_expr : (e : Expr) → FormedExpr e → Kept wide passes s e → Divided (show_expr e)
   an_expr e f h = expr_part wide passes law ok s e f h
 
   a_name : (i : Identifier) → Name i → Passes wide passes s i → Narrow (show_identifier i)
@@ -56,10 +56,10 @@ module _ (wide : Bool) (passes : List ℕ → Bool) {L : List ℕ → Token → 
   the_word : (w : Word) → Narrow (a_word w)
   the_word w = word_part wide passes law ok s w
 
-  qualified_type : (q : Qualification) (t : TypeSpecifier) → Formed-qualification q → Formed-type t → KeptQualification wide passes s q → KeptType wide passes s t → Narrow (show_qualification q ++ show_type_specifier t)
+  qualified_type : (q : Qualification) (t : TypeSpecifier) → FormedQualification q → FormedType t → KeptQualification wide passes s q → KeptType wide passes s t → Narrow (show_qualification q ++ show_type_specifier t)
   qualified_type q t f g h k = qualification_part wide passes law ok s q f h and type_part wide passes law ok s t g k
 
-  optional_expr : (e : Option Expr) → IfThere Formed-expr e → IfThere (Kept wide passes s) e → Divided (optional show_expr e)
+  optional_expr : (e : Option Expr) → IfThere FormedExpr e → IfThere (Kept wide passes s) e → Divided (optional show_expr e)
   unfolding optional
   optional_expr none f h = nothing
   optional_expr (some e) f h = an_expr e f h
@@ -86,62 +86,62 @@ module _ (wide : Bool) (passes : List ℕ → Bool) {L : List ℕ → Token → 
 
   -- declarations
 
-  full_part : (t : FullySpecifiedType) → Formed-full-type t → KeptFull wide passes s t → Narrow (show_fully_specified_type t)
-  unfolding Formed-full-type KeptFull show_fully_specified_type
+  full_part : (t : FullySpecifiedType) → FormedFullType t → KeptFull wide passes s t → Narrow (show_fully_specified_type t)
+  unfolding FormedFullType KeptFull show_fully_specified_type
   full_part FullySpecifiedType.no_full_type f h = absurd f
   full_part (FullySpecifiedType.full_type q t) f h = qualified_type q t f.0 f.1 h.0 h.1
 
-  parameter_part : (p : FunctionParameterDeclaration) → Formed-parameter p → KeptParameter wide passes s p → Narrow (show_function_parameter_declaration p)
-  unfolding Formed-parameter KeptParameter show_function_parameter_declaration
+  parameter_part : (p : FunctionParameterDeclaration) → FormedParameter p → KeptParameter wide passes s p → Narrow (show_function_parameter_declaration p)
+  unfolding FormedParameter KeptParameter show_function_parameter_declaration
   parameter_part FunctionParameterDeclaration.no_parameter f h = absurd f
   parameter_part (FunctionParameterDeclaration.Unnamed q t) f h = qualified_type q t f.0 f.1 h.0 h.1
   parameter_part (FunctionParameterDeclaration.Named q t i) f h = qualified_type q t f.0 f.1 h.0 h.1 onto a_gap and identifier_part wide passes law ok s i (parameter_formed i f.2) h.2
 
   -- behind the parameters before them (so too in the lists below)
-  more_parameters : (ps : List FunctionParameterDeclaration) → Each Formed-parameter ps → Each (KeptParameter wide passes s) ps → {cs : List Command} → Narrow cs → Narrow (cs ++ show_parameters ps false)
+  more_parameters : (ps : List FunctionParameterDeclaration) → Each FormedParameter ps → Each (KeptParameter wide passes s) ps → {cs : List Command} → Narrow cs → Narrow (cs ++ show_parameters ps false)
   unfolding Each show_parameters
   more_parameters [] f h {cs = cs} p = rw (append-nil cs) p
   more_parameters (d ∷ ps) f h {cs = cs} p = regroup cs write_list_separator (show_function_parameter_declaration d) (show_parameters ps false) (more_parameters ps f.1 h.1 (separated law ok.symbols p (parameter_part d f.0 h.0)))
 
-  parameters_part : (ps : List FunctionParameterDeclaration) → Each Formed-parameter ps → Each (KeptParameter wide passes s) ps → Narrow (show_parameters ps true)
+  parameters_part : (ps : List FunctionParameterDeclaration) → Each FormedParameter ps → Each (KeptParameter wide passes s) ps → Narrow (show_parameters ps true)
   unfolding Each show_parameters
   parameters_part [] f h = nothing
   parameters_part (d ∷ ps) f h = more_parameters ps f.1 h.1 (parameter_part d f.0 h.0)
 
-  prototype_part : (p : FunctionPrototype) → Formed-prototype p → KeptPrototype wide passes s p → Over (show_function_prototype p)
-  unfolding Formed-prototype KeptPrototype show_function_prototype
+  prototype_part : (p : FunctionPrototype) → FormedPrototype p → KeptPrototype wide passes s p → Over (show_function_prototype p)
+  unfolding FormedPrototype KeptPrototype show_function_prototype
   prototype_part FunctionPrototype.no_prototype f h = absurd f
   prototype_part (FunctionPrototype.prototype i t ps) f h = called law ok.symbols (full_part t f.1 h.1 onto a_gap and a_name i (ordinary_name i f.0) h.0) (parameters_part ps f.2 h.2)
 
   -- an initializer stands clear behind its `=`: an expression begins with no `=`, and a list with a brace
-  initializer_clear : (i : Initializer) → Formed-initializer i → (x : FormattingState) (rest : List ℕ) → Clear wide (Token.symbol equal) (text s (show_initializer i) x ++ rest)
-  unfolding Formed-initializer show_initializer assignment_symbol text written spell symbol_text symbol_lengthens lengthens has
+  initializer_clear : (i : Initializer) → FormedInitializer i → (x : FormattingState) (rest : List ℕ) → Clear wide (Token.symbol equal) (text s (show_initializer i) x ++ rest)
+  unfolding FormedInitializer show_initializer assignment_symbol text written spell symbol_text symbol_lengthens lengthens has
   initializer_clear Initializer.no_initializer f x rest = absurd f
   initializer_clear (Initializer.Simple e) f x rest = value_clear wide passes law ok s AssignmentOp.Equal e f true x rest
   initializer_clear (Initializer.ListOf is) f x rest = refl
 
   mutual
-    unfolding Formed-initializer Formed-some-initializers Formed-initializers KeptInitializer KeptInitializers show_initializer show_initializers symbol_lengthens symbol_text name_byte letter digit
+    unfolding FormedInitializer FormedSomeInitializers FormedInitializers KeptInitializer KeptInitializers show_initializer show_initializers symbol_lengthens symbol_text name_byte letter digit
 
-    initializer_part : (i : Initializer) → Formed-initializer i → KeptInitializer wide passes s i → Divided (show_initializer i)
+    initializer_part : (i : Initializer) → FormedInitializer i → KeptInitializer wide passes s i → Divided (show_initializer i)
     initializer_part Initializer.no_initializer f h = absurd f
     initializer_part (Initializer.Simple e) f h = an_expr e f h
     initializer_part (Initializer.ListOf is) f h = opened law ok.symbols left_brace refl (blank_part refl (initializers_part is f h)) onto blank_next refl (symbol_next law ok.symbols right_brace refl refl nothing)
 
-    initializers_part : (is : Initializers) → Formed-some-initializers is → KeptInitializers wide passes s is → Divided (show_initializers is true)
+    initializers_part : (is : Initializers) → FormedSomeInitializers is → KeptInitializers wide passes s is → Divided (show_initializers is true)
     initializers_part Initializers.no_initializers f h = absurd f
     initializers_part (Initializers.initializers i is) f h = more_initializers is f.1 h.1 (initializer_part i f.0 h.0)
 
-    more_initializers : (is : Initializers) → Formed-initializers is → KeptInitializers wide passes s is → {cs : List Command} → Divided cs → Divided (cs ++ show_initializers is false)
+    more_initializers : (is : Initializers) → FormedInitializers is → KeptInitializers wide passes s is → {cs : List Command} → Divided cs → Divided (cs ++ show_initializers is false)
     more_initializers Initializers.no_initializers f h {cs = cs} p = rw (append-nil cs) p
     more_initializers (Initializers.initializers i is) f h {cs = cs} p = regroup cs write_list_separator (show_initializer i) (show_initializers is false) (more_initializers is f.1 h.1 (separated law ok.symbols p (initializer_part i f.0 h.0)))
 
   -- `=` and an initializer behind what it initializes; they are there or not
-  equals : (i : Initializer) → Formed-initializer i → KeptInitializer wide passes s i → {cs : List Command} → Narrow cs → Divided (cs ++ write_binary_op equal ++ show_initializer i)
+  equals : (i : Initializer) → FormedInitializer i → KeptInitializer wide passes s i → {cs : List Command} → Narrow cs → Divided (cs ++ write_binary_op equal ++ show_initializer i)
   unfolding symbol_text name_byte letter digit
   equals i f h p = between law ok.symbols equal refl (λ off. initializer_clear i f) p (initializer_part i f h)
 
-  initialized : (i : Option Initializer) → IfThere Formed-initializer i → IfThere (KeptInitializer wide passes s) i → {cs : List Command} → Narrow cs → Divided (cs ++ show_initialized i)
+  initialized : (i : Option Initializer) → IfThere FormedInitializer i → IfThere (KeptInitializer wide passes s) i → {cs : List Command} → Narrow cs → Divided (cs ++ show_initialized i)
   unfolding show_initialized
   initialized none f h {cs = cs} p = rw (append-nil cs) (loosen p)
   initialized (some i) f h {cs = cs} p = subst (λ (ds : List Command). Divided ds) (append_assoc cs (write_binary_op equal) (show_initializer i)) (equals i f h p)
@@ -151,40 +151,40 @@ module _ (wide : Bool) (passes : List ℕ → Bool) {L : List ℕ → Token → 
   declared none f h {cs = cs} p = rw (append-nil cs) p
   declared (some i) f h p = p onto space_next (a_name i f h)
 
-  single_part : (d : SingleDeclaration) → Formed-single d → KeptSingle wide passes s d → Divided (show_single_declaration d)
-  unfolding Formed-single KeptSingle show_single_declaration
+  single_part : (d : SingleDeclaration) → FormedSingle d → KeptSingle wide passes s d → Divided (show_single_declaration d)
+  unfolding FormedSingle KeptSingle show_single_declaration
   single_part SingleDeclaration.no_single f h = absurd f
   single_part (SingleDeclaration.single t n ds i) f h = initialized i f.3 h.3 (array_part wide passes law ok s ds f.2 h.2 (declared n f.1 h.1 (full_part t f.0 h.0)))
 
-  declarator_part : (d : SingleDeclarationNoType) → Formed-declarator d → KeptDeclarator wide passes s d → Divided (show_single_declaration_no_type d)
-  unfolding Formed-declarator KeptDeclarator show_single_declaration_no_type
+  declarator_part : (d : SingleDeclarationNoType) → FormedDeclarator d → KeptDeclarator wide passes s d → Divided (show_single_declaration_no_type d)
+  unfolding FormedDeclarator KeptDeclarator show_single_declaration_no_type
   declarator_part SingleDeclarationNoType.no_declarator f h = absurd f
   declarator_part (SingleDeclarationNoType.declarator x i) f h = initialized i f.1 h.1 (identifier_part wide passes law ok s x f.0 h.0)
 
-  tail_part : (ds : List SingleDeclarationNoType) → Each Formed-declarator ds → Each (KeptDeclarator wide passes s) ds → {cs : List Command} → Divided cs → Divided (cs ++ show_tail ds)
+  tail_part : (ds : List SingleDeclarationNoType) → Each FormedDeclarator ds → Each (KeptDeclarator wide passes s) ds → {cs : List Command} → Divided cs → Divided (cs ++ show_tail ds)
   unfolding Each show_tail
   tail_part [] f h {cs = cs} p = rw (append-nil cs) p
   tail_part (d ∷ ds) f h {cs = cs} p = regroup cs write_list_separator (show_single_declaration_no_type d) (show_tail ds) (tail_part ds f.1 h.1 (separated law ok.symbols p (declarator_part d f.0 h.0)))
 
-  declarators_part : (l : InitDeclaratorList) → Formed-declarators l → KeptDeclarators wide passes s l → Divided (show_init_declarator_list l)
-  unfolding Formed-declarators KeptDeclarators show_init_declarator_list
+  declarators_part : (l : InitDeclaratorList) → FormedDeclarators l → KeptDeclarators wide passes s l → Divided (show_init_declarator_list l)
+  unfolding FormedDeclarators KeptDeclarators show_init_declarator_list
   declarators_part InitDeclaratorList.no_declarators f h = absurd f
   declarators_part (InitDeclaratorList.declarators d ds) f h = tail_part ds f.1 h.1 (single_part d f.0 h.0)
 
-  optional_identifier : (n : Option ArrayedIdentifier) → IfThere Formed-identifier n → IfThere (KeptIdentifier wide passes s) n → Narrow (optional show_arrayed_identifier n)
+  optional_identifier : (n : Option ArrayedIdentifier) → IfThere FormedIdentifier n → IfThere (KeptIdentifier wide passes s) n → Narrow (optional show_arrayed_identifier n)
   unfolding optional
   optional_identifier none f h = nothing
   optional_identifier (some i) f h = identifier_part wide passes law ok s i f h
 
-  block_part : (b : Block) → Formed-block b → KeptBlock wide passes s b → Narrow (show_block b)
-  unfolding Formed-block KeptBlock show_block
+  block_part : (b : Block) → FormedBlock b → KeptBlock wide passes s b → Narrow (show_block b)
+  unfolding FormedBlock KeptBlock show_block
   block_part Block.no_block f h = absurd f
   block_part (Block.block i q fs n) f h =
       qualifier_part wide passes law ok s q f.1 h.1 onto a_gap and a_name i f.0 h.0 onto block_opens law ok.symbols
       and fields_part wide passes law ok s fs f.2 h.2 and block_closes law ok.symbols and optional_identifier n f.3 h.3
 
-  declaration_part : (d : Declaration) → Formed-declaration d → KeptDeclaration wide passes s d → Over (show_declaration d)
-  unfolding Formed-declaration KeptDeclaration show_declaration
+  declaration_part : (d : Declaration) → FormedDeclaration d → KeptDeclaration wide passes s d → Over (show_declaration d)
+  unfolding FormedDeclaration KeptDeclaration show_declaration
   declaration_part Declaration.no_declaration f h = absurd f
   declaration_part (Declaration.OfPrototype p) f h = prototype_part p f h and (ends refl).part
   declaration_part (Declaration.OfDeclarators l) f h = declarators_part l f h onto ends refl
@@ -195,25 +195,25 @@ module _ (wide : Bool) (passes : List ℕ → Bool) {L : List ℕ → Token → 
 
   -- statements
 
-  condition_part : (c : Condition) → Formed-condition c → KeptCondition wide passes s c → Divided (show_condition c)
-  unfolding Formed-condition KeptCondition show_condition
+  condition_part : (c : Condition) → FormedCondition c → KeptCondition wide passes s c → Divided (show_condition c)
+  unfolding FormedCondition KeptCondition show_condition
   condition_part Condition.no_condition f h = absurd f
   condition_part (Condition.OfExpr e) f h = an_expr e f h
   condition_part (Condition.Assignment i t e) f h = equals e f.2 h.2 (full_part t f.1 h.1 onto a_gap and a_name i f.0 h.0)
 
-  optional_condition : (c : Option Condition) → IfThere Formed-condition c → IfThere (KeptCondition wide passes s) c → Divided (optional show_condition c)
+  optional_condition : (c : Option Condition) → IfThere FormedCondition c → IfThere (KeptCondition wide passes s) c → Divided (optional show_condition c)
   unfolding optional
   optional_condition none f h = nothing
   optional_condition (some c) f h = condition_part c f h
 
-  for_init_part : (i : ForInitStatement) → Formed-for-init i → KeptForInit wide passes s i → Over (show_for_init_statement i)
-  unfolding Formed-for-init KeptForInit show_for_init_statement
+  for_init_part : (i : ForInitStatement) → FormedForInit i → KeptForInit wide passes s i → Over (show_for_init_statement i)
+  unfolding FormedForInit KeptForInit show_for_init_statement
   for_init_part ForInitStatement.no_for_init f h = absurd f
   for_init_part (ForInitStatement.Expression e) f h = optional_expr e f h onto ends refl
   for_init_part (ForInitStatement.OfDeclaration d) f h = declaration_part d f h
 
-  jump_part : (j : JumpStatement) → Formed-jump j → KeptJump wide passes s j → Over (show_jump_statement j)
-  unfolding Formed-jump KeptJump show_jump_statement
+  jump_part : (j : JumpStatement) → FormedJump j → KeptJump wide passes s j → Over (show_jump_statement j)
+  unfolding FormedJump KeptJump show_jump_statement
   jump_part JumpStatement.Continue f h = the_word Word.continue onto ends refl
   jump_part JumpStatement.Break f h = the_word Word.break onto ends refl
   jump_part JumpStatement.Discard f h = the_word Word.discard onto ends refl
@@ -231,9 +231,9 @@ module _ (wide : Bool) (passes : List ℕ → Bool) {L : List ℕ → Token → 
   module _ (collapse : Bool) where
     -- a flushed line is first in each
     mutual
-      unfolding Formed-statement Formed-statements KeptStatement KeptStatements show_statement show_statements
+      unfolding FormedStatement FormedStatements KeptStatement KeptStatements show_statement show_statements
 
-      statement_part : (a : Statement) → Formed-statement a → KeptStatement wide passes s a → Over (show_statement collapse a)
+      statement_part : (a : Statement) → FormedStatement a → KeptStatement wide passes s a → Over (show_statement collapse a)
       statement_part Statement.no_statement f h = absurd f
       statement_part (Statement.OfDeclaration d) f h = blank_part refl (declaration_part d f h)
       statement_part (Statement.Compound ss) f h = blank_part refl (compound_part (collapse && single_item ss) (statements_part ss f h))
@@ -252,23 +252,23 @@ module _ (wide : Bool) (passes : List ℕ → Bool) {L : List ℕ → Token → 
           blank_part refl (the_word Word.for onto paren_opens and for_init_part i f.0 h.0 and blank_part refl (optional_condition c f.1 h.1) onto ends refl and optional_expr e f.2 h.2 onto paren_closes and statement_part a f.3 h.3)
       statement_part (Statement.OfJump j) f h = blank_part refl (jump_part j f h)
 
-      statements_part : (ss : Statements) → Formed-statements ss → KeptStatements wide passes s ss → Over (show_statements collapse ss)
+      statements_part : (ss : Statements) → FormedStatements ss → KeptStatements wide passes s ss → Over (show_statements collapse ss)
       statements_part Statements.no_statements f h = nothing
       statements_part (Statements.statements a ss) f h = statement_part a f.0 h.0 and statements_part ss f.1 h.1
 
     -- the unit
 
-    external_part : (d : ExternalDeclaration) → Formed-external d → KeptExternal wide passes s d → Over (show_external_declaration collapse d)
-    unfolding Formed-external KeptExternal show_external_declaration show_function_definition
+    external_part : (d : ExternalDeclaration) → FormedExternal d → KeptExternal wide passes s d → Over (show_external_declaration collapse d)
+    unfolding FormedExternal KeptExternal show_external_declaration show_function_definition
     external_part ExternalDeclaration.no_external f h = absurd f
     external_part (ExternalDeclaration.OfDeclaration d) f h = blank_part refl (declaration_part d f h)
     external_part (ExternalDeclaration.FunctionDefinition p ss) f h = blank_part refl (prototype_part p f.0 h.0 and blank_part refl (compound_part false (statements_part ss f.1 h.1)) and blank_part refl (blank_part refl nothing))
 
-    unit_part : (u : TranslationUnit) → Formed-unit u → KeptUnit wide passes s u → Over (show_translation_unit collapse u)
+    unit_part : (u : TranslationUnit) → FormedUnit u → KeptUnit wide passes s u → Over (show_translation_unit collapse u)
     unfolding Each show_translation_unit
     unit_part [] f h = nothing
     unit_part (d ∷ ds) f h = external_part d f.0 h.0 and unit_part ds f.1 h.1
 
     -- the whole text
-    pub unit_divided : (u : TranslationUnit) → Formed-unit u → KeptUnit wide passes s u → (x : FormattingState) → Divides L W (text s (show_translation_unit collapse u) x) (tokens_of (show_translation_unit collapse u))
+    pub unit_divided : (u : TranslationUnit) → FormedUnit u → KeptUnit wide passes s u → (x : FormattingState) → Divides L W (text s (show_translation_unit collapse u) x) (tokens_of (show_translation_unit collapse u))
     unit_divided u f h x = simp append-nil at ((unit_part u f h).join x [] [] (λ t e. absurd e) at_end)

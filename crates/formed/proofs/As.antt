@@ -5,7 +5,7 @@ use Prim.Native.Nat.{ℕ, ◌+◌}
 use Rattle.shapes.specs.Class.{Class}
 use Rattle.text.specs.Tree.{Expr, FunIdentifier, TypeSpecifier, TypeSpecifierNonArray, ArraySpecifier, ArraySpecifierDimension, StructFieldSpecifier, ArrayedIdentifier, TypeQualifier, TypeQualifierSpec, LayoutQualifierSpec, FullySpecifiedType, FunctionParameterDeclaration, FunctionPrototype, Initializer, SingleDeclaration, SingleDeclarationNoType, InitDeclaratorList, Block, Declaration, Condition, ForInitStatement, Statement, Statements, ExternalDeclaration, TranslationUnit}
 use Rattle.text.specs.Reading.{Read, Reader, made, from, expr, callee, type, base, array, dimension, field, identifier, qualifier, spec, layout_id, full_type, prototype, parameter, declarators, single, declarator, initializer, block, declaration, compound, statement, condition, for_init, external, unit}
-use Rattle.formed.specs.Formed.{Formed-expr, Formed-callee, Formed-type, Formed-base, Formed-array, Formed-dimension, Formed-field, Formed-identifier, Formed-parameter-identifier, Formed-qualifier, Formed-spec, Formed-precision, Formed-id, Formed-full-type, Formed-prototype, Formed-parameter, Formed-declarators, Formed-single, Formed-declarator, Formed-initializer, Formed-block, Formed-declaration, Formed-statements, Formed-statement, Formed-condition, Formed-for-init, Formed-external, Formed-unit}
+use Rattle.formed.specs.Formed.{FormedExpr, FormedCallee, FormedType, FormedBase, FormedArray, FormedDimension, FormedField, FormedIdentifier, FormedParameterIdentifier, FormedQualifier, FormedSpec, FormedPrecision, FormedId, FormedFullType, FormedPrototype, FormedParameter, FormedDeclarators, FormedSingle, FormedDeclarator, FormedInitializer, FormedBlock, FormedDeclaration, FormedStatements, FormedStatement, FormedCondition, FormedForInit, FormedExternal, FormedUnit}
 
 -- the sort of tree that a class asks for
 abbrev pub Sort : Class → Type 0
@@ -71,34 +71,34 @@ reader Class.unit = unit
 
 -- formed, as that sort
 abbrev pub Formed : (c : Class) → Sort c → Type 0
-Formed Class.expr = Formed-expr
-Formed Class.callee = Formed-callee
-Formed Class.type = Formed-type
-Formed Class.base = Formed-base
-Formed Class.array = Formed-array
-Formed Class.dimension = Formed-dimension
-Formed Class.field = Formed-field
-Formed Class.identifier = Formed-identifier
-Formed Class.parameter_identifier = Formed-parameter-identifier
-Formed Class.qualifier = Formed-qualifier
-Formed Class.spec = Formed-spec
-Formed Class.precision = Formed-precision
-Formed Class.layout_id = Formed-id
-Formed Class.full_type = Formed-full-type
-Formed Class.prototype = Formed-prototype
-Formed Class.parameter = Formed-parameter
-Formed Class.declarators = Formed-declarators
-Formed Class.single = Formed-single
-Formed Class.declarator = Formed-declarator
-Formed Class.initializer = Formed-initializer
-Formed Class.block = Formed-block
-Formed Class.declaration = Formed-declaration
-Formed Class.compound = Formed-statements
-Formed Class.statement = Formed-statement
-Formed Class.condition = Formed-condition
-Formed Class.for_init = Formed-for-init
-Formed Class.external = Formed-external
-Formed Class.unit = Formed-unit
+Formed Class.expr = FormedExpr
+Formed Class.callee = FormedCallee
+Formed Class.type = FormedType
+Formed Class.base = FormedBase
+Formed Class.array = FormedArray
+Formed Class.dimension = FormedDimension
+Formed Class.field = FormedField
+Formed Class.identifier = FormedIdentifier
+Formed Class.parameter_identifier = FormedParameterIdentifier
+Formed Class.qualifier = FormedQualifier
+Formed Class.spec = FormedSpec
+Formed Class.precision = FormedPrecision
+Formed Class.layout_id = FormedId
+Formed Class.full_type = FormedFullType
+Formed Class.prototype = FormedPrototype
+Formed Class.parameter = FormedParameter
+Formed Class.declarators = FormedDeclarators
+Formed Class.single = FormedSingle
+Formed Class.declarator = FormedDeclarator
+Formed Class.initializer = FormedInitializer
+Formed Class.block = FormedBlock
+Formed Class.declaration = FormedDeclaration
+Formed Class.compound = FormedStatements
+Formed Class.statement = FormedStatement
+Formed Class.condition = FormedCondition
+Formed Class.for_init = FormedForInit
+Formed Class.external = FormedExternal
+Formed Class.unit = FormedUnit
 
 -- a reading of the records from i on that is what P says and ends before record m
 pub record Reads {A : Type 0} (P : A → Type 0) (x : Read A) (i m : ℕ) : Type 0 where

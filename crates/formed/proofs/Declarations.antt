@@ -6,7 +6,7 @@ use Prim.Native.Nat.{ℕ}
 use Rattle.records.specs.Record.{part}
 use Rattle.shapes.specs.Class.Class.{expr, type, identifier, parameter_identifier, qualifier, precision, full_type, prototype, parameter, declarators, single, declarator, initializer, block, declaration}
 use Rattle.text.specs.Tree.{Identifier, FunctionParameterDeclaration, FunctionPrototype, Initializer, Initializers, SingleDeclaration, SingleDeclarationNoType, InitDeclaratorList, Block, Declaration}
-use Rattle.formed.specs.Formed.{Name, IfThere, Each, Formed-parameter, Formed-declarator, Formed-initializers, Formed-single, Formed-block}
+use Rattle.formed.specs.Formed.{Name, IfThere, Each, FormedParameter, FormedDeclarator, FormedInitializers, FormedSingle, FormedBlock}
 use Rattle.formed.proofs.Plan.{Items, items, Row, ◌so◌, reads}
 use Rattle.formed.proofs.Plan.Plan.{give, one, several, some as Some-of, ◌and◌}
 use Rattle.formed.proofs.Optional.{maybe, maybe_holds, array_if, array_if_holds, qualification_if, qualification_if_holds}
@@ -18,38 +18,38 @@ use Rattle.formed.proofs.Types.{fields}
 -- lists
 unfoldable parameters : Items parameter (List FunctionParameterDeclaration)
 unfolding opened
-parameters = items [] ◌∷◌ (Each Formed-parameter) tt (λ x p y q. (p, q))
+parameters = items [] ◌∷◌ (Each FormedParameter) tt (λ x p y q. (p, q))
 
 unfoldable next_declarators : Items declarator (List SingleDeclarationNoType)
 unfolding opened
-next_declarators = items [] ◌∷◌ (Each Formed-declarator) tt (λ x p y q. (p, q))
+next_declarators = items [] ◌∷◌ (Each FormedDeclarator) tt (λ x p y q. (p, q))
 
 unfoldable initializers : Items initializer Initializers
 unfolding opened
-initializers = items Initializers.no_initializers Initializers.initializers Formed-initializers tt (λ x p y q. (p, q))
+initializers = items Initializers.no_initializers Initializers.initializers FormedInitializers tt (λ x p y q. (p, q))
 
 -- what several variants share
-unnamed_row : Bool → Row Formed-parameter
+unnamed_row : Bool → Row FormedParameter
 unfolding opened
 unnamed_row b = give FunctionParameterDeclaration.Unnamed and qualification_if b and one type so qualification_if_holds b (λ x p y q. (p, q))
 
-named_row : Bool → Row Formed-parameter
+named_row : Bool → Row FormedParameter
 unfolding opened
 named_row b =
     give FunctionParameterDeclaration.Named and qualification_if b and one type and one parameter_identifier
     so qualification_if_holds b (λ x p y q z r. (p, q, r))
 
-single_row : (s : Option Identifier) → IfThere Name s → Bool → Bool → Row Formed-single
+single_row : (s : Option Identifier) → IfThere Name s → Bool → Bool → Row FormedSingle
 unfolding opened
 single_row s h b d =
     give SingleDeclaration.single and one full_type and give s and array_if b and maybe d initializer
     so λ x p. array_if_holds b (λ y q. maybe_holds d initializer (λ z r. (p, h, q, r)))
 
-declarator_row : Bool → Row Formed-declarator
+declarator_row : Bool → Row FormedDeclarator
 unfolding opened
 declarator_row b = give SingleDeclarationNoType.declarator and one identifier and maybe b initializer so λ x p. maybe_holds b initializer (λ y q. (p, q))
 
-block_row : (s : Identifier) → Name s → ℕ → Bool → Row Formed-block
+block_row : (s : Identifier) → Name s → ℕ → Bool → Row FormedBlock
 unfolding opened fields
 block_row s h n b =
     give (Block.block s) and one qualifier and several n fields and maybe b identifier

@@ -6,7 +6,7 @@ use Rattle.records.specs.Record.{part}
 use Rattle.shapes.specs.Class.Class.{expr, callee}
 use Rattle.text.specs.Tree.{Expr, Exprs}
 use Rattle.text.specs.Reading.{unary_op_of, binary_op_of, assignment_op}
-use Rattle.formed.specs.Formed.{Formed-exprs}
+use Rattle.formed.specs.Formed.{FormedExprs}
 use Rattle.formed.proofs.Plan.{Items, items, ◌so◌, reads}
 use Rattle.formed.proofs.Plan.Plan.{give, one, several, ◌and◌}
 use Rattle.text.proofs.Span.{Span, ◌then◌}
@@ -15,7 +15,7 @@ use Rattle.formed.proofs.Opened.{opened}
 
 unfoldable arguments : Items expr Exprs
 unfolding opened
-arguments = items Exprs.no_exprs Exprs.exprs Formed-exprs tt (λ x p y q. (p, q))
+arguments = items Exprs.no_exprs Exprs.exprs FormedExprs tt (λ x p y q. (p, q))
 
 module _ (rs ns : List ℕ) where
   pub exprs : Span (Kind rs ns expr) 1 16

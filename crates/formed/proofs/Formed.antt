@@ -15,7 +15,7 @@ use Rattle.accepted.proofs.Sizes.{check_next}
 use Rattle.accepted.proofs.Each.{each_record}
 use Rattle.text.specs.Reading.{Item, expr, unit, from}
 use Rattle.text.proofs.At.{from_in}
-use Rattle.formed.specs.Formed.{Formed-expr, Formed-unit}
+use Rattle.formed.specs.Formed.{FormedExpr, FormedUnit}
 use Rattle.formed.proofs.As.{reader, Formed, Reads, As, Parts}
 use Rattle.formed.proofs.Faultless.{faultless}
 use Rattle.formed.proofs.Classes.{kinds}
@@ -53,13 +53,13 @@ module _ (rs ns : List ℕ) where
     pub root_reads : (c : Class) (m : ℕ) → check rs ns c ≡ Next m → As rs ns c 0 (record_count rs)
     root_reads c m e = subst (As rs ns c 0) (all_taken rs ns c m e) (node_reads deepest c 0 m (check_next rs ns c m e).2)
 
-    pub unit_formed : (m : ℕ) → check rs ns Class.unit ≡ Next m → Formed-unit (unit (from rs ns 0)).tree
+    pub unit_formed : (m : ℕ) → check rs ns Class.unit ≡ Next m → FormedUnit (unit (from rs ns 0)).tree
     unit_formed m e = (root_reads Class.unit m e).formed
 
     pub unit_size : (m : ℕ) → check rs ns Class.unit ≡ Next m → (unit (from rs ns 0)).size ≡ record_count rs
     unit_size m e = omega (arith, (root_reads Class.unit m e).ends)
 
-    pub expr_formed : (m : ℕ) → check rs ns Class.expr ≡ Next m → Formed-expr (expr (from rs ns 0)).tree
+    pub expr_formed : (m : ℕ) → check rs ns Class.expr ≡ Next m → FormedExpr (expr (from rs ns 0)).tree
     expr_formed m e = (root_reads Class.expr m e).formed
 
     pub expr_size : (m : ℕ) → check rs ns Class.expr ≡ Next m → (expr (from rs ns 0)).size ≡ record_count rs

@@ -3,7 +3,7 @@ use mathlib.Core.Bool.{Bool, true, false}
 use mathlib.Core.Option.{Option, none, some}
 use Rattle.shapes.specs.Class.{Class}
 use Rattle.text.specs.Tree.{ArraySpecifier, Qualification}
-use Rattle.formed.specs.Formed.{IfThere, Formed-array, Formed-dimensions, Formed-qualification}
+use Rattle.formed.specs.Formed.{IfThere, FormedArray, FormedDimensions, FormedQualification}
 use Rattle.formed.proofs.As.{Sort, Formed}
 use Rattle.formed.proofs.Plan.{Plan, Holds}
 use Rattle.formed.proofs.Plan.Plan.{give, one, ◌and◌}
@@ -22,13 +22,13 @@ array_if true = one Class.array
 array_if false = give ArraySpecifier.no_dimensions
 
 -- an array that is there is dimensions
-dimensions : (x : ArraySpecifier) → Formed-array x → Formed-dimensions x
-unfolding Formed-array Formed-dimensions
+dimensions : (x : ArraySpecifier) → FormedArray x → FormedDimensions x
+unfolding FormedArray FormedDimensions
 dimensions ArraySpecifier.no_dimensions p = absurd p
 dimensions (ArraySpecifier.dimensions d ds) p = p
 
-pub array_if_holds : (b : Bool) {P : ArraySpecifier → Type 0} → ((x : ArraySpecifier) → Formed-dimensions x → P x) → Holds (array_if b) P
-unfolding Holds Formed-dimensions
+pub array_if_holds : (b : Bool) {P : ArraySpecifier → Type 0} → ((x : ArraySpecifier) → FormedDimensions x → P x) → Holds (array_if b) P
+unfolding Holds FormedDimensions
 array_if_holds true h = λ x p. h x (dimensions x p)
 array_if_holds false h = h ArraySpecifier.no_dimensions tt
 
@@ -36,7 +36,7 @@ abbrev pub qualification_if : Bool → Plan Qualification
 qualification_if true = give Qualification.qualified and one Class.qualifier
 qualification_if false = give Qualification.unqualified
 
-pub qualification_if_holds : (b : Bool) {P : Qualification → Type 0} → ((x : Qualification) → Formed-qualification x → P x) → Holds (qualification_if b) P
-unfolding Holds Formed-qualification
+pub qualification_if_holds : (b : Bool) {P : Qualification → Type 0} → ((x : Qualification) → FormedQualification x → P x) → Holds (qualification_if b) P
+unfolding Holds FormedQualification
 qualification_if_holds true h = λ x p. h (Qualification.qualified x) p
 qualification_if_holds false h = h Qualification.unqualified tt

@@ -1,9 +1,9 @@
 -- The qualifier spec of a precision declaration is a qualifier spec. Assumes nothing.
 use Rattle.text.specs.Tree.{TypeQualifierSpec}
-use Rattle.formed.specs.Formed.{Formed-spec, Formed-precision}
+use Rattle.formed.specs.Formed.{FormedSpec, FormedPrecision}
 
-pub precision_formed : (q : TypeQualifierSpec) → Formed-precision q → Formed-spec q
-unfolding Formed-precision Formed-spec
+pub precision_formed : (q : TypeQualifierSpec) → FormedPrecision q → FormedSpec q
+unfolding FormedPrecision FormedSpec
 precision_formed TypeQualifierSpec.no_spec h = absurd h
 precision_formed (TypeQualifierSpec.Storage q) h = absurd h
 precision_formed (TypeQualifierSpec.Subroutine ts) h = absurd h

@@ -28,7 +28,7 @@ use Rattle.text.specs.Operator.{precedence, postfix_precedence, binary_precedenc
 use Rattle.text.specs.Joins.{unary_sign, sign_if, sign, sign_callee}
 use Rattle.text.specs.Text.{bare_if, show_int, bool_word, show_expr, show_function_identifier, show_type_specifier, show_type_specifier_non_array}
 use Rattle.text.proofs.Append.{text_append}
-use Rattle.formed.specs.Formed.{Name, Float, KeywordNumber, Formed-expr, Formed-callee, Formed-type, Formed-base}
+use Rattle.formed.specs.Formed.{Name, Float, KeywordNumber, FormedExpr, FormedCallee, FormedType, FormedBase}
 
 abbrev pub plus : ℕ
 plus = code "+"
@@ -171,15 +171,15 @@ keyword_starts v h = go (bytes (get_or type_keywords v "")) refl (at (λ v. with
     go [] e t = absurd (let z : ◌≡◌ {A = ℕ} 0 1 = cc in omega arith)
     go (b ∷ bs) e t = starts_token (Token.type v) [] b bs e (letter_front b t) (no_sign letter b refl refl t)
 
-base_starts : (t : TypeSpecifierNonArray) → Formed-base t → Starts 0 (show_type_specifier_non_array t)
-unfolding Formed-base show_type_specifier_non_array spell word_text name_byte letter digit
+base_starts : (t : TypeSpecifierNonArray) → FormedBase t → Starts 0 (show_type_specifier_non_array t)
+unfolding FormedBase show_type_specifier_non_array spell word_text name_byte letter digit
 base_starts TypeSpecifierNonArray.no_base h = absurd h
 base_starts (TypeSpecifierNonArray.Keyword v) h = keyword_starts v h
 base_starts (TypeSpecifierNonArray.TypeName i) h = name_starts i h []
 base_starts (TypeSpecifierNonArray.Struct i fs) h = starts_token (Token.word Word.struct) _ (code "s") (bytes "truct") refl refl refl
 
-type_starts : (t : TypeSpecifier) → Formed-type t → Starts 0 (show_type_specifier t)
-unfolding Formed-type show_type_specifier
+type_starts : (t : TypeSpecifier) → FormedType t → Starts 0 (show_type_specifier t)
+unfolding FormedType show_type_specifier
 type_starts TypeSpecifier.no_type h = absurd h
 type_starts (TypeSpecifier.type t a) h = base_starts t h.0 and_more _
 
@@ -198,9 +198,9 @@ bool_starts true = starts_token _ [] (code "t") (bytes "rue") refl refl refl
 bool_starts false = starts_token _ [] (code "f") (bytes "alse") refl refl refl
 
 mutual
-  unfolding sign show_expr Formed-expr spell
+  unfolding sign show_expr FormedExpr spell
 
-  pub expr_starts : (e : Expr) → Formed-expr e → Starts (sign e) (show_expr e)
+  pub expr_starts : (e : Expr) → FormedExpr e → Starts (sign e) (show_expr e)
   expr_starts Expr.no_expr h = absurd h
   expr_starts (Expr.Variable i) h = name_starts i h []
   expr_starts (Expr.IntConst n) h = int_starts n
@@ -219,6 +219,6 @@ mutual
   expr_starts (Expr.PostDec e) h = starts_bare (ltb (precedence e) postfix_precedence) (expr_starts e h) and_more _
   expr_starts (Expr.Comma a b) h = starts_bare (leb (precedence a) comma_precedence) (expr_starts a h.0) and_more _ and_more _
 
-  callee_starts : (f : FunIdentifier) → Formed-callee f → Starts (sign_callee f) (show_function_identifier f)
+  callee_starts : (f : FunIdentifier) → FormedCallee f → Starts (sign_callee f) (show_function_identifier f)
   callee_starts (FunIdentifier.OfType t) h = type_starts t h
   callee_starts (FunIdentifier.OfExpr e) h = expr_starts e h

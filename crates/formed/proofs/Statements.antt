@@ -6,7 +6,7 @@ use Prim.Native.Nat.{ℕ}
 use Rattle.records.specs.Record.{part}
 use Rattle.shapes.specs.Class.Class.{expr, full_type, prototype, initializer, declaration, compound, statement, condition, for_init, external, unit}
 use Rattle.text.specs.Tree.{Condition, ForInitStatement, JumpStatement, Statement, Statements, ExternalDeclaration}
-use Rattle.formed.specs.Formed.{Each, Formed-statements, Formed-statement, Formed-external}
+use Rattle.formed.specs.Formed.{Each, FormedStatements, FormedStatement, FormedExternal}
 use Rattle.formed.proofs.As.{as_sort}
 use Rattle.formed.proofs.Plan.{Items, items, Row, ◌so◌, reads}
 use Rattle.formed.proofs.Plan.Plan.{give, one, several, ◌and◌}
@@ -19,14 +19,14 @@ use Rattle.formed.proofs.Declarations.{declaration_kind}
 -- lists
 unfoldable statements : Items statement Statements
 unfolding opened
-statements = items Statements.no_statements Statements.statements Formed-statements tt (λ x p y q. (p, q))
+statements = items Statements.no_statements Statements.statements FormedStatements tt (λ x p y q. (p, q))
 
 unfoldable externals : Items external (List ExternalDeclaration)
 unfolding opened
-externals = items [] ◌∷◌ (Each Formed-external) tt (λ x p y q. (p, q))
+externals = items [] ◌∷◌ (Each FormedExternal) tt (λ x p y q. (p, q))
 
 -- what several variants share
-for_row : Bool → Bool → Row Formed-statement
+for_row : Bool → Bool → Row FormedStatement
 unfolding opened
 for_row b d =
     give Statement.For and one for_init and maybe b condition and maybe d expr and one statement

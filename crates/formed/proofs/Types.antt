@@ -12,7 +12,7 @@ use Rattle.shapes.specs.Shape.{rows, last_variant}
 use Rattle.shapes.specs.Class.Class.{expr, type, base, array, dimension, field, identifier, parameter_identifier, qualifier, spec, precision, layout_id, full_type}
 use Rattle.text.specs.Tree.{Identifier, TypeSpecifier, TypeSpecifiers, TypeSpecifierNonArray, ArraySpecifier, ArraySpecifierDimension, StructFieldSpecifier, StructFieldSpecifiers, ArrayedIdentifier, ArrayedIdentifiers, TypeQualifier, TypeQualifierSpec, LayoutQualifier, LayoutQualifierSpec, FullySpecifiedType}
 use Rattle.text.specs.Reading.{storage_of}
-use Rattle.formed.specs.Formed.{KeywordNumber, Declared, IfThere, Formed-type, Formed-types, Formed-base, Formed-dimensions, Formed-field, Formed-fields, Formed-identifiers, Formed-specs, Formed-ids, Formed-full-type}
+use Rattle.formed.specs.Formed.{KeywordNumber, Declared, IfThere, FormedType, FormedTypes, FormedBase, FormedDimensions, FormedField, FormedFields, FormedIdentifiers, FormedSpecs, FormedIds, FormedFullType}
 use Rattle.formed.proofs.Plan.{Items, items, Row, ◌so◌, reads}
 use Rattle.formed.proofs.Plan.Plan.{give, one, several, some as Some-of, ◌and◌}
 use Rattle.formed.proofs.Optional.{array_if, array_if_holds, qualification_if, qualification_if_holds}
@@ -24,49 +24,49 @@ use Rattle.formed.proofs.Opened.{opened}
 -- lists
 unfoldable types : Items type TypeSpecifiers
 unfolding opened
-types = items TypeSpecifiers.no_types TypeSpecifiers.types Formed-types tt (λ x p y q. (p, q))
+types = items TypeSpecifiers.no_types TypeSpecifiers.types FormedTypes tt (λ x p y q. (p, q))
 
 unfoldable pub fields : Items field StructFieldSpecifiers
 unfolding opened
-fields = items StructFieldSpecifiers.no_fields StructFieldSpecifiers.fields Formed-fields tt (λ x p y q. (p, q))
+fields = items StructFieldSpecifiers.no_fields StructFieldSpecifiers.fields FormedFields tt (λ x p y q. (p, q))
 
 unfoldable dimensions : Items dimension ArraySpecifier
 unfolding opened
-dimensions = items ArraySpecifier.no_dimensions ArraySpecifier.dimensions Formed-dimensions tt (λ x p y q. (p, q))
+dimensions = items ArraySpecifier.no_dimensions ArraySpecifier.dimensions FormedDimensions tt (λ x p y q. (p, q))
 
 unfoldable identifiers : Items identifier ArrayedIdentifiers
 unfolding opened
-identifiers = items ArrayedIdentifiers.no_identifiers ArrayedIdentifiers.identifiers Formed-identifiers tt (λ x p y q. (p, q))
+identifiers = items ArrayedIdentifiers.no_identifiers ArrayedIdentifiers.identifiers FormedIdentifiers tt (λ x p y q. (p, q))
 
 unfoldable specs : Items spec TypeQualifier
 unfolding opened
-specs = items TypeQualifier.no_specs TypeQualifier.specs Formed-specs tt (λ x p y q. (p, q))
+specs = items TypeQualifier.no_specs TypeQualifier.specs FormedSpecs tt (λ x p y q. (p, q))
 
 unfoldable ids : Items layout_id LayoutQualifier
 unfolding opened
-ids = items LayoutQualifier.no_ids LayoutQualifier.ids Formed-ids tt (λ x p y q. (p, q))
+ids = items LayoutQualifier.no_ids LayoutQualifier.ids FormedIds tt (λ x p y q. (p, q))
 
 -- what several variants share
-type_row : Bool → Row Formed-type
+type_row : Bool → Row FormedType
 unfolding opened
 type_row b = give TypeSpecifier.type and one base and array_if b so λ x p. array_if_holds b (λ y q. (p, q))
 
-struct_row : (n : ℕ) (s : Option Identifier) → IfThere Declared s → Row Formed-base
+struct_row : (n : ℕ) (s : Option Identifier) → IfThere Declared s → Row FormedBase
 unfolding opened fields
 struct_row n s h = give (TypeSpecifierNonArray.Struct s) and several n fields so λ x p. (h, p)
 
-field_row : (n : ℕ) → 0 < n → Bool → Row Formed-field
+field_row : (n : ℕ) → 0 < n → Bool → Row FormedField
 unfolding opened identifiers
 field_row n h b =
     give StructFieldSpecifier.field and qualification_if b and one type and Some-of n h identifiers
     so qualification_if_holds b (λ x p y q z r u s. (p, q, (r, s)))
 
 identifier_row : {P : ArrayedIdentifier → Type 0} (s : Identifier)
-    → ((ds : ArraySpecifier) → Formed-dimensions ds → P (ArrayedIdentifier.arrayed s ds)) → Bool → Row P
+    → ((ds : ArraySpecifier) → FormedDimensions ds → P (ArrayedIdentifier.arrayed s ds)) → Bool → Row P
 unfolding opened
 identifier_row s h b = give (ArrayedIdentifier.arrayed s) and array_if b so array_if_holds b h
 
-full_type_row : Bool → Row Formed-full-type
+full_type_row : Bool → Row FormedFullType
 unfolding opened
 full_type_row b = give FullySpecifiedType.full_type and qualification_if b and one type so qualification_if_holds b (λ x p y q. (p, q))
 

@@ -35,233 +35,233 @@ abbrev pub IfThere : {A : Type 0} → (A → Type 0) → Option A → Type 0
 IfThere P none = Unit
 IfThere P (some x) = P x
 
--- Expressions, types, arrays, fields and qualifiers. Where a list must have an item, the first is asked for by itself (Formed-array, -some-identifiers,
+-- Expressions, types, arrays, fields and qualifiers. Where a list must have an item, the first is asked for by itself (FormedArray, -some-identifiers,
 -- -qualifier, -layout, -some-initializers), and the list behind it may be empty.
 unfoldable mutual
-  pub Formed-expr : Expr → Type 0
-  Formed-expr Expr.no_expr = ⊥
-  Formed-expr (Expr.Variable s) = Name s
-  Formed-expr (Expr.IntConst n) = Bits n
-  Formed-expr (Expr.UIntConst n) = Bits n
-  Formed-expr (Expr.BoolConst b) = Unit
-  Formed-expr (Expr.FloatConst s) = Float s
-  Formed-expr (Expr.DoubleConst s) = Float s
-  Formed-expr (Expr.Unary op x) = Formed-expr x
-  Formed-expr (Expr.Binary op x y) = Formed-expr x × Formed-expr y
-  Formed-expr (Expr.Ternary x y z) = Formed-expr x × Formed-expr y × Formed-expr z
-  Formed-expr (Expr.Assignment op x y) = Formed-expr x × Formed-expr y
-  Formed-expr (Expr.Bracket x y) = Formed-expr x × Formed-expr y
-  Formed-expr (Expr.FunCall f xs) = Formed-callee f × Formed-exprs xs
-  Formed-expr (Expr.Dot s x) = Name s × Formed-expr x
-  Formed-expr (Expr.PostInc x) = Formed-expr x
-  Formed-expr (Expr.PostDec x) = Formed-expr x
-  Formed-expr (Expr.Comma x y) = Formed-expr x × Formed-expr y
+  pub FormedExpr : Expr → Type 0
+  FormedExpr Expr.no_expr = ⊥
+  FormedExpr (Expr.Variable s) = Name s
+  FormedExpr (Expr.IntConst n) = Bits n
+  FormedExpr (Expr.UIntConst n) = Bits n
+  FormedExpr (Expr.BoolConst b) = Unit
+  FormedExpr (Expr.FloatConst s) = Float s
+  FormedExpr (Expr.DoubleConst s) = Float s
+  FormedExpr (Expr.Unary op x) = FormedExpr x
+  FormedExpr (Expr.Binary op x y) = FormedExpr x × FormedExpr y
+  FormedExpr (Expr.Ternary x y z) = FormedExpr x × FormedExpr y × FormedExpr z
+  FormedExpr (Expr.Assignment op x y) = FormedExpr x × FormedExpr y
+  FormedExpr (Expr.Bracket x y) = FormedExpr x × FormedExpr y
+  FormedExpr (Expr.FunCall f xs) = FormedCallee f × FormedExprs xs
+  FormedExpr (Expr.Dot s x) = Name s × FormedExpr x
+  FormedExpr (Expr.PostInc x) = FormedExpr x
+  FormedExpr (Expr.PostDec x) = FormedExpr x
+  FormedExpr (Expr.Comma x y) = FormedExpr x × FormedExpr y
 
-  pub Formed-exprs : Exprs → Type 0
-  Formed-exprs Exprs.no_exprs = Unit
-  Formed-exprs (Exprs.exprs x xs) = Formed-expr x × Formed-exprs xs
+  pub FormedExprs : Exprs → Type 0
+  FormedExprs Exprs.no_exprs = Unit
+  FormedExprs (Exprs.exprs x xs) = FormedExpr x × FormedExprs xs
 
-  pub Formed-callee : FunIdentifier → Type 0
-  Formed-callee (FunIdentifier.OfType t) = Formed-type t
-  Formed-callee (FunIdentifier.OfExpr x) = Formed-expr x
+  pub FormedCallee : FunIdentifier → Type 0
+  FormedCallee (FunIdentifier.OfType t) = FormedType t
+  FormedCallee (FunIdentifier.OfExpr x) = FormedExpr x
 
-  pub Formed-type : TypeSpecifier → Type 0
-  Formed-type TypeSpecifier.no_type = ⊥
-  Formed-type (TypeSpecifier.type t ds) = Formed-base t × Formed-dimensions ds
+  pub FormedType : TypeSpecifier → Type 0
+  FormedType TypeSpecifier.no_type = ⊥
+  FormedType (TypeSpecifier.type t ds) = FormedBase t × FormedDimensions ds
 
-  pub Formed-types : TypeSpecifiers → Type 0
-  Formed-types TypeSpecifiers.no_types = Unit
-  Formed-types (TypeSpecifiers.types t ts) = Formed-type t × Formed-types ts
+  pub FormedTypes : TypeSpecifiers → Type 0
+  FormedTypes TypeSpecifiers.no_types = Unit
+  FormedTypes (TypeSpecifiers.types t ts) = FormedType t × FormedTypes ts
 
-  pub Formed-base : TypeSpecifierNonArray → Type 0
-  Formed-base TypeSpecifierNonArray.no_base = ⊥
-  Formed-base (TypeSpecifierNonArray.Keyword v) = KeywordNumber v
-  Formed-base (TypeSpecifierNonArray.TypeName s) = Name s
-  Formed-base (TypeSpecifierNonArray.Struct s fs) = IfThere Declared s × Formed-fields fs
+  pub FormedBase : TypeSpecifierNonArray → Type 0
+  FormedBase TypeSpecifierNonArray.no_base = ⊥
+  FormedBase (TypeSpecifierNonArray.Keyword v) = KeywordNumber v
+  FormedBase (TypeSpecifierNonArray.TypeName s) = Name s
+  FormedBase (TypeSpecifierNonArray.Struct s fs) = IfThere Declared s × FormedFields fs
 
   -- an array that is there; dimensions that may be absent
-  pub Formed-array : ArraySpecifier → Type 0
-  Formed-array ArraySpecifier.no_dimensions = ⊥
-  Formed-array (ArraySpecifier.dimensions d ds) = Formed-dimension d × Formed-dimensions ds
+  pub FormedArray : ArraySpecifier → Type 0
+  FormedArray ArraySpecifier.no_dimensions = ⊥
+  FormedArray (ArraySpecifier.dimensions d ds) = FormedDimension d × FormedDimensions ds
 
-  pub Formed-dimensions : ArraySpecifier → Type 0
-  Formed-dimensions ArraySpecifier.no_dimensions = Unit
-  Formed-dimensions (ArraySpecifier.dimensions d ds) = Formed-dimension d × Formed-dimensions ds
+  pub FormedDimensions : ArraySpecifier → Type 0
+  FormedDimensions ArraySpecifier.no_dimensions = Unit
+  FormedDimensions (ArraySpecifier.dimensions d ds) = FormedDimension d × FormedDimensions ds
 
-  pub Formed-dimension : ArraySpecifierDimension → Type 0
-  Formed-dimension ArraySpecifierDimension.no_dimension = ⊥
-  Formed-dimension ArraySpecifierDimension.Unsized = Unit
-  Formed-dimension (ArraySpecifierDimension.ExplicitlySized x) = Formed-expr x
+  pub FormedDimension : ArraySpecifierDimension → Type 0
+  FormedDimension ArraySpecifierDimension.no_dimension = ⊥
+  FormedDimension ArraySpecifierDimension.Unsized = Unit
+  FormedDimension (ArraySpecifierDimension.ExplicitlySized x) = FormedExpr x
 
-  pub Formed-field : StructFieldSpecifier → Type 0
-  Formed-field StructFieldSpecifier.no_field = ⊥
-  Formed-field (StructFieldSpecifier.field q t is) = Formed-qualification q × Formed-type t × Formed-some-identifiers is
+  pub FormedField : StructFieldSpecifier → Type 0
+  FormedField StructFieldSpecifier.no_field = ⊥
+  FormedField (StructFieldSpecifier.field q t is) = FormedQualification q × FormedType t × FormedSomeIdentifiers is
 
-  pub Formed-fields : StructFieldSpecifiers → Type 0
-  Formed-fields StructFieldSpecifiers.no_fields = Unit
-  Formed-fields (StructFieldSpecifiers.fields f fs) = Formed-field f × Formed-fields fs
+  pub FormedFields : StructFieldSpecifiers → Type 0
+  FormedFields StructFieldSpecifiers.no_fields = Unit
+  FormedFields (StructFieldSpecifiers.fields f fs) = FormedField f × FormedFields fs
 
-  pub Formed-identifier : ArrayedIdentifier → Type 0
-  Formed-identifier ArrayedIdentifier.no_identifier = ⊥
-  Formed-identifier (ArrayedIdentifier.arrayed s ds) = Name s × Formed-dimensions ds
+  pub FormedIdentifier : ArrayedIdentifier → Type 0
+  FormedIdentifier ArrayedIdentifier.no_identifier = ⊥
+  FormedIdentifier (ArrayedIdentifier.arrayed s ds) = Name s × FormedDimensions ds
 
-  pub Formed-parameter-identifier : ArrayedIdentifier → Type 0
-  Formed-parameter-identifier ArrayedIdentifier.no_identifier = ⊥
-  Formed-parameter-identifier (ArrayedIdentifier.arrayed s ds) = Declared s × Formed-dimensions ds
+  pub FormedParameterIdentifier : ArrayedIdentifier → Type 0
+  FormedParameterIdentifier ArrayedIdentifier.no_identifier = ⊥
+  FormedParameterIdentifier (ArrayedIdentifier.arrayed s ds) = Declared s × FormedDimensions ds
 
-  pub Formed-some-identifiers : ArrayedIdentifiers → Type 0
-  Formed-some-identifiers ArrayedIdentifiers.no_identifiers = ⊥
-  Formed-some-identifiers (ArrayedIdentifiers.identifiers i is) = Formed-identifier i × Formed-identifiers is
+  pub FormedSomeIdentifiers : ArrayedIdentifiers → Type 0
+  FormedSomeIdentifiers ArrayedIdentifiers.no_identifiers = ⊥
+  FormedSomeIdentifiers (ArrayedIdentifiers.identifiers i is) = FormedIdentifier i × FormedIdentifiers is
 
-  pub Formed-identifiers : ArrayedIdentifiers → Type 0
-  Formed-identifiers ArrayedIdentifiers.no_identifiers = Unit
-  Formed-identifiers (ArrayedIdentifiers.identifiers i is) = Formed-identifier i × Formed-identifiers is
+  pub FormedIdentifiers : ArrayedIdentifiers → Type 0
+  FormedIdentifiers ArrayedIdentifiers.no_identifiers = Unit
+  FormedIdentifiers (ArrayedIdentifiers.identifiers i is) = FormedIdentifier i × FormedIdentifiers is
 
-  pub Formed-qualification : Qualification → Type 0
-  Formed-qualification Qualification.unqualified = Unit
-  Formed-qualification (Qualification.qualified q) = Formed-qualifier q
+  pub FormedQualification : Qualification → Type 0
+  FormedQualification Qualification.unqualified = Unit
+  FormedQualification (Qualification.qualified q) = FormedQualifier q
 
-  pub Formed-qualifier : TypeQualifier → Type 0
-  Formed-qualifier TypeQualifier.no_specs = ⊥
-  Formed-qualifier (TypeQualifier.specs q qs) = Formed-spec q × Formed-specs qs
+  pub FormedQualifier : TypeQualifier → Type 0
+  FormedQualifier TypeQualifier.no_specs = ⊥
+  FormedQualifier (TypeQualifier.specs q qs) = FormedSpec q × FormedSpecs qs
 
-  pub Formed-specs : TypeQualifier → Type 0
-  Formed-specs TypeQualifier.no_specs = Unit
-  Formed-specs (TypeQualifier.specs q qs) = Formed-spec q × Formed-specs qs
+  pub FormedSpecs : TypeQualifier → Type 0
+  FormedSpecs TypeQualifier.no_specs = Unit
+  FormedSpecs (TypeQualifier.specs q qs) = FormedSpec q × FormedSpecs qs
 
-  pub Formed-spec : TypeQualifierSpec → Type 0
-  Formed-spec TypeQualifierSpec.no_spec = ⊥
-  Formed-spec (TypeQualifierSpec.Storage q) = Unit
-  Formed-spec (TypeQualifierSpec.Subroutine ts) = Formed-types ts
-  Formed-spec (TypeQualifierSpec.Layout is) = Formed-layout is
-  Formed-spec (TypeQualifierSpec.Precision p) = Unit
-  Formed-spec (TypeQualifierSpec.Interpolation i) = Unit
-  Formed-spec TypeQualifierSpec.Invariant = Unit
-  Formed-spec TypeQualifierSpec.Precise = Unit
+  pub FormedSpec : TypeQualifierSpec → Type 0
+  FormedSpec TypeQualifierSpec.no_spec = ⊥
+  FormedSpec (TypeQualifierSpec.Storage q) = Unit
+  FormedSpec (TypeQualifierSpec.Subroutine ts) = FormedTypes ts
+  FormedSpec (TypeQualifierSpec.Layout is) = FormedLayout is
+  FormedSpec (TypeQualifierSpec.Precision p) = Unit
+  FormedSpec (TypeQualifierSpec.Interpolation i) = Unit
+  FormedSpec TypeQualifierSpec.Invariant = Unit
+  FormedSpec TypeQualifierSpec.Precise = Unit
 
-  pub Formed-layout : LayoutQualifier → Type 0
-  Formed-layout LayoutQualifier.no_ids = ⊥
-  Formed-layout (LayoutQualifier.ids i is) = Formed-id i × Formed-ids is
+  pub FormedLayout : LayoutQualifier → Type 0
+  FormedLayout LayoutQualifier.no_ids = ⊥
+  FormedLayout (LayoutQualifier.ids i is) = FormedId i × FormedIds is
 
-  pub Formed-ids : LayoutQualifier → Type 0
-  Formed-ids LayoutQualifier.no_ids = Unit
-  Formed-ids (LayoutQualifier.ids i is) = Formed-id i × Formed-ids is
+  pub FormedIds : LayoutQualifier → Type 0
+  FormedIds LayoutQualifier.no_ids = Unit
+  FormedIds (LayoutQualifier.ids i is) = FormedId i × FormedIds is
 
-  pub Formed-id : LayoutQualifierSpec → Type 0
-  Formed-id LayoutQualifierSpec.no_id = ⊥
-  Formed-id (LayoutQualifierSpec.Ident s) = Name s
-  Formed-id (LayoutQualifierSpec.IdentIs s x) = Name s × Formed-expr x
-  Formed-id LayoutQualifierSpec.Shared = Unit
+  pub FormedId : LayoutQualifierSpec → Type 0
+  FormedId LayoutQualifierSpec.no_id = ⊥
+  FormedId (LayoutQualifierSpec.Ident s) = Name s
+  FormedId (LayoutQualifierSpec.IdentIs s x) = Name s × FormedExpr x
+  FormedId LayoutQualifierSpec.Shared = Unit
 
 -- declarations
 
-unfoldable pub Formed-full-type : FullySpecifiedType → Type 0
-Formed-full-type FullySpecifiedType.no_full_type = ⊥
-Formed-full-type (FullySpecifiedType.full_type q t) = Formed-qualification q × Formed-type t
+unfoldable pub FormedFullType : FullySpecifiedType → Type 0
+FormedFullType FullySpecifiedType.no_full_type = ⊥
+FormedFullType (FullySpecifiedType.full_type q t) = FormedQualification q × FormedType t
 
-unfoldable pub Formed-parameter : FunctionParameterDeclaration → Type 0
-Formed-parameter FunctionParameterDeclaration.no_parameter = ⊥
-Formed-parameter (FunctionParameterDeclaration.Unnamed q t) = Formed-qualification q × Formed-type t
-Formed-parameter (FunctionParameterDeclaration.Named q t i) = Formed-qualification q × Formed-type t × Formed-parameter-identifier i
+unfoldable pub FormedParameter : FunctionParameterDeclaration → Type 0
+FormedParameter FunctionParameterDeclaration.no_parameter = ⊥
+FormedParameter (FunctionParameterDeclaration.Unnamed q t) = FormedQualification q × FormedType t
+FormedParameter (FunctionParameterDeclaration.Named q t i) = FormedQualification q × FormedType t × FormedParameterIdentifier i
 
-unfoldable pub Formed-prototype : FunctionPrototype → Type 0
-Formed-prototype FunctionPrototype.no_prototype = ⊥
-Formed-prototype (FunctionPrototype.prototype s t ps) = Declared s × Formed-full-type t × Each Formed-parameter ps
+unfoldable pub FormedPrototype : FunctionPrototype → Type 0
+FormedPrototype FunctionPrototype.no_prototype = ⊥
+FormedPrototype (FunctionPrototype.prototype s t ps) = Declared s × FormedFullType t × Each FormedParameter ps
 
 unfoldable mutual
-  pub Formed-initializer : Initializer → Type 0
-  Formed-initializer Initializer.no_initializer = ⊥
-  Formed-initializer (Initializer.Simple x) = Formed-expr x
-  Formed-initializer (Initializer.ListOf is) = Formed-some-initializers is
+  pub FormedInitializer : Initializer → Type 0
+  FormedInitializer Initializer.no_initializer = ⊥
+  FormedInitializer (Initializer.Simple x) = FormedExpr x
+  FormedInitializer (Initializer.ListOf is) = FormedSomeInitializers is
 
-  pub Formed-some-initializers : Initializers → Type 0
-  Formed-some-initializers Initializers.no_initializers = ⊥
-  Formed-some-initializers (Initializers.initializers i is) = Formed-initializer i × Formed-initializers is
+  pub FormedSomeInitializers : Initializers → Type 0
+  FormedSomeInitializers Initializers.no_initializers = ⊥
+  FormedSomeInitializers (Initializers.initializers i is) = FormedInitializer i × FormedInitializers is
 
-  pub Formed-initializers : Initializers → Type 0
-  Formed-initializers Initializers.no_initializers = Unit
-  Formed-initializers (Initializers.initializers i is) = Formed-initializer i × Formed-initializers is
+  pub FormedInitializers : Initializers → Type 0
+  FormedInitializers Initializers.no_initializers = Unit
+  FormedInitializers (Initializers.initializers i is) = FormedInitializer i × FormedInitializers is
 
-unfoldable pub Formed-single : SingleDeclaration → Type 0
-Formed-single SingleDeclaration.no_single = ⊥
-Formed-single (SingleDeclaration.single t s ds i) = Formed-full-type t × IfThere Name s × Formed-dimensions ds × IfThere Formed-initializer i
+unfoldable pub FormedSingle : SingleDeclaration → Type 0
+FormedSingle SingleDeclaration.no_single = ⊥
+FormedSingle (SingleDeclaration.single t s ds i) = FormedFullType t × IfThere Name s × FormedDimensions ds × IfThere FormedInitializer i
 
-unfoldable pub Formed-declarator : SingleDeclarationNoType → Type 0
-Formed-declarator SingleDeclarationNoType.no_declarator = ⊥
-Formed-declarator (SingleDeclarationNoType.declarator x i) = Formed-identifier x × IfThere Formed-initializer i
+unfoldable pub FormedDeclarator : SingleDeclarationNoType → Type 0
+FormedDeclarator SingleDeclarationNoType.no_declarator = ⊥
+FormedDeclarator (SingleDeclarationNoType.declarator x i) = FormedIdentifier x × IfThere FormedInitializer i
 
-unfoldable pub Formed-declarators : InitDeclaratorList → Type 0
-Formed-declarators InitDeclaratorList.no_declarators = ⊥
-Formed-declarators (InitDeclaratorList.declarators d ds) = Formed-single d × Each Formed-declarator ds
+unfoldable pub FormedDeclarators : InitDeclaratorList → Type 0
+FormedDeclarators InitDeclaratorList.no_declarators = ⊥
+FormedDeclarators (InitDeclaratorList.declarators d ds) = FormedSingle d × Each FormedDeclarator ds
 
-unfoldable pub Formed-block : Block → Type 0
-Formed-block Block.no_block = ⊥
-Formed-block (Block.block s q fs i) = Name s × Formed-qualifier q × Formed-fields fs × IfThere Formed-identifier i
+unfoldable pub FormedBlock : Block → Type 0
+FormedBlock Block.no_block = ⊥
+FormedBlock (Block.block s q fs i) = Name s × FormedQualifier q × FormedFields fs × IfThere FormedIdentifier i
 
 -- the spec of a precision declaration (01, kind 47: "29 of variant 19..21, else 7")
-unfoldable pub Formed-precision : TypeQualifierSpec → Type 0
-Formed-precision TypeQualifierSpec.no_spec = ⊥
-Formed-precision (TypeQualifierSpec.Storage q) = ⊥
-Formed-precision (TypeQualifierSpec.Subroutine ts) = ⊥
-Formed-precision (TypeQualifierSpec.Layout is) = ⊥
-Formed-precision (TypeQualifierSpec.Precision p) = Unit
-Formed-precision (TypeQualifierSpec.Interpolation i) = ⊥
-Formed-precision TypeQualifierSpec.Invariant = ⊥
-Formed-precision TypeQualifierSpec.Precise = ⊥
+unfoldable pub FormedPrecision : TypeQualifierSpec → Type 0
+FormedPrecision TypeQualifierSpec.no_spec = ⊥
+FormedPrecision (TypeQualifierSpec.Storage q) = ⊥
+FormedPrecision (TypeQualifierSpec.Subroutine ts) = ⊥
+FormedPrecision (TypeQualifierSpec.Layout is) = ⊥
+FormedPrecision (TypeQualifierSpec.Precision p) = Unit
+FormedPrecision (TypeQualifierSpec.Interpolation i) = ⊥
+FormedPrecision TypeQualifierSpec.Invariant = ⊥
+FormedPrecision TypeQualifierSpec.Precise = ⊥
 
-unfoldable pub Formed-declaration : Declaration → Type 0
-Formed-declaration Declaration.no_declaration = ⊥
-Formed-declaration (Declaration.OfPrototype p) = Formed-prototype p
-Formed-declaration (Declaration.OfDeclarators ds) = Formed-declarators ds
-Formed-declaration (Declaration.Precision p t) = Formed-precision p × Formed-type t
-Formed-declaration (Declaration.OfBlock b) = Formed-block b
-Formed-declaration (Declaration.Invariant s) = Name s
-Formed-declaration (Declaration.TypeOnly q) = Formed-qualifier q
+unfoldable pub FormedDeclaration : Declaration → Type 0
+FormedDeclaration Declaration.no_declaration = ⊥
+FormedDeclaration (Declaration.OfPrototype p) = FormedPrototype p
+FormedDeclaration (Declaration.OfDeclarators ds) = FormedDeclarators ds
+FormedDeclaration (Declaration.Precision p t) = FormedPrecision p × FormedType t
+FormedDeclaration (Declaration.OfBlock b) = FormedBlock b
+FormedDeclaration (Declaration.Invariant s) = Name s
+FormedDeclaration (Declaration.TypeOnly q) = FormedQualifier q
 
 -- statements
 
-unfoldable pub Formed-condition : Condition → Type 0
-Formed-condition Condition.no_condition = ⊥
-Formed-condition (Condition.OfExpr x) = Formed-expr x
-Formed-condition (Condition.Assignment s t i) = Name s × Formed-full-type t × Formed-initializer i
+unfoldable pub FormedCondition : Condition → Type 0
+FormedCondition Condition.no_condition = ⊥
+FormedCondition (Condition.OfExpr x) = FormedExpr x
+FormedCondition (Condition.Assignment s t i) = Name s × FormedFullType t × FormedInitializer i
 
-unfoldable pub Formed-for-init : ForInitStatement → Type 0
-Formed-for-init ForInitStatement.no_for_init = ⊥
-Formed-for-init (ForInitStatement.Expression x) = IfThere Formed-expr x
-Formed-for-init (ForInitStatement.OfDeclaration d) = Formed-declaration d
+unfoldable pub FormedForInit : ForInitStatement → Type 0
+FormedForInit ForInitStatement.no_for_init = ⊥
+FormedForInit (ForInitStatement.Expression x) = IfThere FormedExpr x
+FormedForInit (ForInitStatement.OfDeclaration d) = FormedDeclaration d
 
-unfoldable pub Formed-jump : JumpStatement → Type 0
-Formed-jump JumpStatement.Continue = Unit
-Formed-jump JumpStatement.Break = Unit
-Formed-jump JumpStatement.Discard = Unit
-Formed-jump (JumpStatement.Return x) = IfThere Formed-expr x
+unfoldable pub FormedJump : JumpStatement → Type 0
+FormedJump JumpStatement.Continue = Unit
+FormedJump JumpStatement.Break = Unit
+FormedJump JumpStatement.Discard = Unit
+FormedJump (JumpStatement.Return x) = IfThere FormedExpr x
 
 unfoldable mutual
-  pub Formed-statement : Statement → Type 0
-  Formed-statement Statement.no_statement = ⊥
-  Formed-statement (Statement.OfDeclaration d) = Formed-declaration d
-  Formed-statement (Statement.Compound ss) = Formed-statements ss
-  Formed-statement (Statement.Expression x) = IfThere Formed-expr x
-  Formed-statement (Statement.If x s) = Formed-expr x × Formed-statement s
-  Formed-statement (Statement.IfElse x s t) = Formed-expr x × Formed-statement s × Formed-statement t
-  Formed-statement (Statement.Switch x ss) = Formed-expr x × Formed-statements ss
-  Formed-statement Statement.Default = Unit
-  Formed-statement (Statement.Case x) = Formed-expr x
-  Formed-statement (Statement.While c s) = Formed-condition c × Formed-statement s
-  Formed-statement (Statement.DoWhile s x) = Formed-statement s × Formed-expr x
-  Formed-statement (Statement.For i c x s) = Formed-for-init i × IfThere Formed-condition c × IfThere Formed-expr x × Formed-statement s
-  Formed-statement (Statement.OfJump j) = Formed-jump j
+  pub FormedStatement : Statement → Type 0
+  FormedStatement Statement.no_statement = ⊥
+  FormedStatement (Statement.OfDeclaration d) = FormedDeclaration d
+  FormedStatement (Statement.Compound ss) = FormedStatements ss
+  FormedStatement (Statement.Expression x) = IfThere FormedExpr x
+  FormedStatement (Statement.If x s) = FormedExpr x × FormedStatement s
+  FormedStatement (Statement.IfElse x s t) = FormedExpr x × FormedStatement s × FormedStatement t
+  FormedStatement (Statement.Switch x ss) = FormedExpr x × FormedStatements ss
+  FormedStatement Statement.Default = Unit
+  FormedStatement (Statement.Case x) = FormedExpr x
+  FormedStatement (Statement.While c s) = FormedCondition c × FormedStatement s
+  FormedStatement (Statement.DoWhile s x) = FormedStatement s × FormedExpr x
+  FormedStatement (Statement.For i c x s) = FormedForInit i × IfThere FormedCondition c × IfThere FormedExpr x × FormedStatement s
+  FormedStatement (Statement.OfJump j) = FormedJump j
 
-  pub Formed-statements : Statements → Type 0
-  Formed-statements Statements.no_statements = Unit
-  Formed-statements (Statements.statements s ss) = Formed-statement s × Formed-statements ss
+  pub FormedStatements : Statements → Type 0
+  FormedStatements Statements.no_statements = Unit
+  FormedStatements (Statements.statements s ss) = FormedStatement s × FormedStatements ss
 
 -- the unit
 
-unfoldable pub Formed-external : ExternalDeclaration → Type 0
-Formed-external ExternalDeclaration.no_external = ⊥
-Formed-external (ExternalDeclaration.OfDeclaration d) = Formed-declaration d
-Formed-external (ExternalDeclaration.FunctionDefinition p ss) = Formed-prototype p × Formed-statements ss
+unfoldable pub FormedExternal : ExternalDeclaration → Type 0
+FormedExternal ExternalDeclaration.no_external = ⊥
+FormedExternal (ExternalDeclaration.OfDeclaration d) = FormedDeclaration d
+FormedExternal (ExternalDeclaration.FunctionDefinition p ss) = FormedPrototype p × FormedStatements ss
 
-abbrev pub Formed-unit : TranslationUnit → Type 0
-Formed-unit es = Each Formed-external es
+abbrev pub FormedUnit : TranslationUnit → Type 0
+FormedUnit es = Each FormedExternal es

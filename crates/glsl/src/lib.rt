@@ -164,23 +164,13 @@ fn print_bits(root: Root, settings: &[u8], records: &[u8], names: &[u8], room: &
 
 // The calls for C, which crates/glsl_c exports under the same names and clauses: there each slice is a pointer and a length. The answer is the length of the text or a
 // refusal with its place.
-pub fn glsl_print_unit(
-    settings: &[u8],
-    records: &[u8],
-    names: &[u8],
-    room: &mut [u8],
-) -> i64
+pub fn glsl_print_unit(settings: &[u8], records: &[u8], names: &[u8], room: &mut [u8]) -> i64
     ensures { PrintsBits (unit_outcome settings.now records.now names.now room.old) (unit_text settings.now records.now names.now) room.old room.new result }
 {
     print_bits(Root::Unit, settings, records, names, room)
 }
 
-pub fn glsl_print_expr(
-    settings: &[u8],
-    records: &[u8],
-    names: &[u8],
-    room: &mut [u8],
-) -> i64
+pub fn glsl_print_expr(settings: &[u8], records: &[u8], names: &[u8], room: &mut [u8]) -> i64
     ensures { PrintsBits (expr_outcome settings.now records.now names.now room.old) (expr_text settings.now records.now names.now) room.old room.new result }
 {
     print_bits(Root::Expr, settings, records, names, room)

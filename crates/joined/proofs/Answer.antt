@@ -20,7 +20,7 @@ use Rattle.text.specs.Reading.{Item, from, expr, binary_op_of}
 use Rattle.text.specs.Joined.{joins_here, somewhere, joined_answer}
 use Rattle.text.specs.Joins.{joins_right}
 use Rattle.text.proofs.ByKind.{at_kind}
-use Rattle.formed.specs.Formed.{Formed-expr}
+use Rattle.formed.specs.Formed.{FormedExpr}
 use Rattle.formed.proofs.Kind.{rec}
 use Rattle.joined.specs.declared.Head.{Head}
 use Rattle.signs.specs.Sign.{of_unary, of_binary, joins_with, additive}
@@ -37,7 +37,7 @@ module _ (rs ns : List ℕ) (byte : (p : ℕ) → get_or rs p 0 < 256) where
   Alike i r = joins_at r (before rs (i + 1)).head (get_or (before rs (i + 1)).stack 1 0) ≡ joins_here r (from rs ns (i + 1))
 
   -- a unary operator and a Dot: the operand stands right behind
-  unary_here : (i v n a b : ℕ) → Formed-expr (expr (from rs ns (i + 1))).tree → Alike i (rec 7 v n a b)
+  unary_here : (i v n a b : ℕ) → FormedExpr (expr (from rs ns (i + 1))).tree → Alike i (rec 7 v n a b)
   unfolding joins_at own_of
   unary_here i v n a b formed =
       let op = of_unary v in

@@ -16,7 +16,7 @@ use Rattle.accept.proofs.Accepted.{bind_next, node_next, node_deep}
 use Rattle.text.specs.Reading.{from, expr}
 use Rattle.text.proofs.At.{from_drop}
 use Rattle.text.proofs.ByKind.{at_kind}
-use Rattle.formed.specs.Formed.{Formed-expr}
+use Rattle.formed.specs.Formed.{FormedExpr}
 use Rattle.formed.proofs.Kind.{rec}
 use Rattle.formed.proofs.Formed.{node_reads}
 
@@ -29,7 +29,7 @@ module _ (rs ns : List ℕ) where
     pub first : node rs ns left Class.expr (i + 1) ≡ Next at
     pub second : node rs ns left Class.expr at ≡ Next next
     pub there : drop (0 + (expr (from rs ns (i + 1))).size) (from rs ns (i + 1)) ≡ from rs ns at
-    pub formed : Formed-expr (expr (from rs ns at)).tree
+    pub formed : FormedExpr (expr (from rs ns at)).tree
 
 module _ (rs ns : List ℕ) (byte : (p : ℕ) → get_or rs p 0 < 256) where
   -- the children of a record at i are accepted
@@ -37,7 +37,7 @@ module _ (rs ns : List ℕ) (byte : (p : ℕ) → get_or rs p 0 < 256) where
   Children left m i k v n a b = each (node rs ns left) (children_of (rec k v n a b)) (i + 1) ≡ Next m
 
   -- a unary operator's operand stands right behind it
-  operand_formed : (left m i v n a b : ℕ) → Children left m i 7 v n a b → Formed-expr (expr (from rs ns (i + 1))).tree
+  operand_formed : (left m i v n a b : ℕ) → Children left m i 7 v n a b → FormedExpr (expr (from rs ns (i + 1))).tree
   unfolding rows shape_of classes
   operand_formed left m i v n a b e =
       let x = bind_next (node rs ns left Class.expr (i + 1)) (each (node rs ns left) []) m e in
@@ -61,7 +61,7 @@ module _ (rs ns : List ℕ) (byte : (p : ℕ) → get_or rs p 0 < 256) where
       }
 
   -- what holds of unary and binary operators, and of all else, holds of each record of an accepted tree
-  module _ (Q : ℕ → Record → Type 0) (unary : (i v n a b : ℕ) → Formed-expr (expr (from rs ns (i + 1))).tree → Q i (rec 7 v n a b))
+  module _ (Q : ℕ → Record → Type 0) (unary : (i v n a b : ℕ) → FormedExpr (expr (from rs ns (i + 1))).tree → Q i (rec 7 v n a b))
       (binary : (i v n a b : ℕ) → Right rs ns i → Q i (rec 8 v n a b)) (other : (i k v n a b : ℕ) → eqb k 7 ≡ false → eqb k 8 ≡ false → Q i (rec k v n a b)) where
     pub of_record : (left : ℕ) (c : Class) (i m : ℕ) → node rs ns left c i ≡ Next m → Q i (record_at rs i)
     of_record zero c i m e = node_deep rs ns (Q i (record_at rs i)) c i m e

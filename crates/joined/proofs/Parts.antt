@@ -19,7 +19,7 @@ part_count : (n x : ℕ) (ps : List Part) → length (classes n (part_of x ∷ p
 unfolding classes
 part_count n x ps = go (eqb (x / 32) 1)
   where
-    go : (b : Bool) → length (classes n (cond b (Part.one_of_lem (class_of x)) (Part.counted (class_of x)) ∷ ps)) ≡ cond b 1 n + length (classes n ps)
+    go : (b : Bool) → length (classes n (cond b (Part.one_of (class_of x)) (Part.counted (class_of x)) ∷ ps)) ≡ cond b 1 n + length (classes n ps)
     go true = omega arith
     go false = length-append (replicate n (class_of x)) (classes n ps) ∙ ap (λ (k : ℕ). k + length (classes n ps)) (length-replicate n (class_of x))
 

@@ -21,7 +21,7 @@ use Rattle.text.specs.Operator.{unary_symbol, binary_symbol, bare_operand, bare_
 use Rattle.text.specs.Joins.{sign, joins, joins_right}
 use Rattle.text.specs.Reading.{Item, from, expr, unary_op_of, binary_op_of}
 use Rattle.text.specs.Joined.{joins_here, somewhere, joined_answer}
-use Rattle.formed.specs.Formed.{Formed-expr}
+use Rattle.formed.specs.Formed.{FormedExpr}
 use Rattle.formed.proofs.Kind.{rec}
 use Rattle.formed.proofs.Signs.{expr_starts}
 use Rattle.formed.proofs.Doubled.{spelled, reads_spelled, neither, as_sign}
@@ -29,7 +29,7 @@ use Rattle.joined.specs.Sentence.{begins, same_sign, in_words}
 use Rattle.joined.proofs.Operands.{Right, of_record}
 
 -- the rule is the sentence about the text of an operand that is formed
-pub worded : (op : Symbol) (bare : Bool) (e : Expr) → Formed-expr e → joins op bare e ≡ same_sign op bare e
+pub worded : (op : Symbol) (bare : Bool) (e : Expr) → FormedExpr e → joins op bare e ≡ same_sign op bare e
 unfolding joins
 worded op false e f = reads_spelled (bytes (symbol_text op)) 0 ∙ neither (bytes (symbol_text op)) 0 refl refl
 worded op true e f =
@@ -42,7 +42,7 @@ module _ (rs ns : List ℕ) (byte : (p : ℕ) → get_or rs p 0 < 256) where
   abbrev Worded : ℕ → Record → Type 0
   Worded i r = joins_here r (from rs ns (i + 1)) ≡ in_words r (from rs ns (i + 1))
 
-  unary_here : (i v n a b : ℕ) → Formed-expr (expr (from rs ns (i + 1))).tree → Worded i (rec 7 v n a b)
+  unary_here : (i v n a b : ℕ) → FormedExpr (expr (from rs ns (i + 1))).tree → Worded i (rec 7 v n a b)
   unary_here i v n a b formed =
       let x = (expr (from rs ns (i + 1))).tree in
       ap (λ (t : Bool). t || false || false) (worded (unary_symbol (unary_op_of v)) (bare_operand (unary_op_of v) x) x formed)

@@ -12,7 +12,7 @@ use Rattle.grammar.specs.Same.{type_callee, indexed_callee, as_read}
 use Rattle.grammar.proofs.Settled.{head_token, head_base, indexed, as_expr, called, word_constant, constant, postfix_symbol, posted}
 use Rattle.grammar.proofs.Roles.{start, role}
 use Rattle.grammar.proofs.Reader.{filled, gives, makes, subscript_room, frame_room, room, reduce, strength, settle, put, put_else, put_comma, close_parens, subscript, close_subscript, empty_subscript, empty_call, void_call, begin, go_on, take, step, run, finish, ended, read}
-use Rattle.formed.specs.Formed.{Formed-expr}
+use Rattle.formed.specs.Formed.{FormedExpr}
 use Rattle.sound.specs.Sound.{Sound}
 
 unfoldable pub reading : ℕ
@@ -21,5 +21,5 @@ unfolding digit letter name_byte all same one_of digits behind_digits whole_part
     last_expr last_dimension under type_callee indexed_callee as_read
     head_token head_base indexed as_expr called word_constant constant postfix_symbol posted start role
     filled gives makes subscript_room frame_room room reduce strength settle put put_else put_comma close_parens subscript close_subscript empty_subscript empty_call void_call begin go_on take step run finish ended read
-    Formed-expr Sound
+    FormedExpr Sound
 reading = 0

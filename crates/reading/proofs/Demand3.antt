@@ -12,7 +12,7 @@ use Rattle.text.specs.Tree.{Expr}
 use Rattle.text.specs.Text.{show_expr}
 use Rattle.text.specs.Visible.{tokens_of}
 use Rattle.text.specs.Whole.{expr_text}
-use Rattle.formed.specs.Formed.{Formed-expr}
+use Rattle.formed.specs.Formed.{FormedExpr}
 use Rattle.formed.proofs.Formed.{expr_formed}
 use Rattle.text.specs.Token.{Token}
 use Rattle.grammar.specs.Chapter9.{Derives}
@@ -33,7 +33,7 @@ use Rattle.sound.proofs.Glsl.{sound_divided}
 use Rattle.sound.proofs.Relaxed.{relaxed}
 use Rattle.reading.specs.Read.{IsRead}
 use Rattle.reading.specs.Call.{ExprCall}
-use Rattle.reading.specs.Demand3.{recorded, SpacedAndSound, ApartAndSound, ReadBack, Demand3, Demand3-of-00}
+use Rattle.reading.specs.Demand3.{recorded, SpacedAndSound, ApartAndSound, ReadBack, Demand3, Demand3Of00}
 use Rattle.reading.proofs.Passed.{records_accepted, text_written}
 
 -- what a text is read as is one expression, for any vocabulary
@@ -49,7 +49,7 @@ pub record Placed (c : ExprCall) : Type 0 where
 
 module _ (W : List ℕ → Bool) (between : Between W) where
   -- of trees
-  pub tree_read : (s : Settings) (kept : Bool) (e : Expr) → Formed-expr e → Sound listed kept e → Kept false any s e → (x : FormattingState) → IsRead W (text s (show_expr e) x) e
+  pub tree_read : (s : Settings) (kept : Bool) (e : Expr) → FormedExpr e → Sound listed kept e → Kept false any s e → (x : FormattingState) → IsRead W (text s (show_expr e) x) e
   tree_read s kept e f t k x = record { tokens = tokens_of (show_expr e); divided = sound_divided W between s kept e f t k x; derived = derived listed kept e t }
 
   call_read : (c : ExprCall) → Placed c → IsRead W c.written (recorded c)
@@ -80,7 +80,7 @@ pub covered : (c : ExprCall) → SpacedAndSound c → ApartAndSound c
 covered c h = record { apart = rw h.spaced refl; sound = relaxed listed (settings_of c.settings).spaces_where_needed (recorded c) h.sound }
 
 -- so demand 3 holds as 00 has it
-pub with_operator_spaces : {W : List ℕ → Bool} → Between W → Demand3-of-00 W
+pub with_operator_spaces : {W : List ℕ → Bool} → Between W → Demand3Of00 W
 with_operator_spaces {W = W} between = read_back W between (λ c h. apart_placed c (covered c h))
 
 -- by GLSL's own words, and by the preprocessor's

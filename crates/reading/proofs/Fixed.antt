@@ -12,7 +12,7 @@ use Rattle.grammar.specs.Same.{Same}
 use Rattle.glsl.specs.Printed.{fitted, outcome}
 use Rattle.reading.specs.Read.{IsRead}
 use Rattle.reading.specs.Call.{ExprCall}
-use Rattle.reading.specs.Demand3.{recorded, SpacedAndSound, Demand3-of-00}
+use Rattle.reading.specs.Demand3.{recorded, SpacedAndSound, Demand3Of00}
 use Rattle.reading.proofs.Computing.{reading}
 use Rattle.reading.proofs.Story.{names, decremented_minus, different, call, open_call, open_sound}
 
@@ -28,7 +28,7 @@ not_same : Same (recorded other_call) (recorded open_call) → ⊥
 unfolding computing other_call open_call
 not_same = different
 
-module _ {W : List ℕ → Bool} (d : Demand3-of-00 W) where
+module _ {W : List ℕ → Bool} (d : Demand3Of00 W) where
   pub no_shared_text : (a b : ExprCall) → SpacedAndSound a → SpacedAndSound b → (Same (recorded a) (recorded b) → ⊥) → (text : List ℕ) → a.written ≡ text → b.written ≡ text → ⊥
   no_shared_text a b h k apart text e f = apart (d.told_apart a b h k (e ∙ sym f))
 

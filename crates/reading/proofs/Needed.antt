@@ -26,7 +26,7 @@ use Rattle.text.specs.Tree.TypeSpecifierNonArray.{Keyword}
 use Rattle.text.specs.Tree.ArraySpecifier.{no_dimensions, dimensions}
 use Rattle.text.specs.Tree.ArraySpecifierDimension.{ExplicitlySized}
 use Rattle.text.proofs.Computing.{computing}
-use Rattle.formed.specs.Formed.{Formed-expr}
+use Rattle.formed.specs.Formed.{FormedExpr}
 use Rattle.lexis.specs.Keywords.{listed}
 use Rattle.lexis.specs.Number.{decimal_or_octal, hexadecimal, integer_constant, exponent_letter, exponent, behind_whole, floating_constant, number_word}
 use Rattle.lexis.specs.Glsl.{identifier_word, symbol_words, glsl_word, unlisted}
@@ -60,7 +60,7 @@ shown byte e = text (settings byte) (show_expr e) fresh
 
 -- a formed tree that is not sound, its text, and another expression that the text is read as
 pub record Misread (byte : ℕ) (tree : Expr) (written : String) (reading : Expr) : Type 0 where
-  pub formed : Formed-expr tree
+  pub formed : FormedExpr tree
   pub unsound : SoundUnder listed (settings byte) tree → ⊥
   pub printed : shown byte tree ≡ bytes written
   pub read : IsRead glsl_word (bytes written) reading
@@ -148,7 +148,7 @@ target byte = record {
 
 -- a formed tree that is not sound, and its text, which is read as nothing by the words of a language
 pub record Unread (W : List ℕ → Bool) (byte : ℕ) (tree : Expr) (written : String) : Type 0 where
-  pub formed : Formed-expr tree
+  pub formed : FormedExpr tree
   pub unsound : SoundUnder listed (settings byte) tree → ⊥
   pub printed : shown byte tree ≡ bytes written
   pub unread : (e : Expr) → IsRead W (bytes written) e → ⊥

@@ -159,7 +159,7 @@ open_call = call OPEN minus_decremented names (bytes "n - --k") refl (record { h
 
 -- an operator over a name is not mixed
 over_name : (kept : Bool) (op : UnaryOp) (n : List ℕ) → Unmixed kept op (Variable n)
-over_name kept op n = elim [ ]
+over_name kept op n h = elim h [ ]
 
 pub open_sound : SpacedAndSound open_call
 unfolding computing checking reading fitted outcome open_call

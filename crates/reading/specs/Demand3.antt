@@ -46,5 +46,5 @@ pub record ReadBack (W : List ℕ → Bool) (Covers : ExprCall → Type 0) : Typ
 abbrev pub Demand3 : (List ℕ → Bool) → Type 0
 Demand3 W = ReadBack W ApartAndSound
 
-abbrev pub Demand3-of-00 : (List ℕ → Bool) → Type 0
-Demand3-of-00 W = ReadBack W SpacedAndSound
+abbrev pub Demand3Of00 : (List ℕ → Bool) → Type 0
+Demand3Of00 W = ReadBack W SpacedAndSound

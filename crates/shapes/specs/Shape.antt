@@ -24,7 +24,7 @@ pub data Count : Type 0 where
 
 -- children of one class: one of them, or as many as the count says
 pub data Part : Type 0 where
-  one_of_lem counted : Class → Part
+  one_of counted : Class → Part
 
 pub record Shape : Type 0 where
   pub fields : Fields
@@ -41,7 +41,7 @@ abbrev pub kind : ℕ → ℕ → Fields → Count → List Part → Row
 kind k last f n ps = record { number = k; last = last; shape = record { fields = f; count = n; parts = ps } }
 
 abbrev pub one : Class → List Part
-one c = Part.one_of_lem c ∷ []
+one c = Part.one_of c ∷ []
 
 abbrev pub several : Class → List Part
 several c = Part.counted c ∷ []
@@ -136,5 +136,5 @@ shape_of k v = (row_of k (rows v)).shape
 -- the classes of the children of a record that counts n, in order
 unfoldable pub classes : ℕ → List Part → List Class
 classes n [] = []
-classes n (Part.one_of_lem c ∷ ps) = c ∷ classes n ps
+classes n (Part.one_of c ∷ ps) = c ∷ classes n ps
 classes n (Part.counted c ∷ ps) = replicate n c ++ classes n ps

@@ -63,7 +63,7 @@ count_of x = get_or (Count.unused ∷ Count.any ∷ []) x Count.positive
 
 -- a part: its class, and 32 more for one child, 64 more for as many as the count says; 0 behind the last part
 abbrev pub part_of : ℕ → Part
-part_of x = cond (eqb (x / 32) 1) (Part.one_of_lem (class_of x)) (Part.counted (class_of x))
+part_of x = cond (eqb (x / 32) 1) (Part.one_of (class_of x)) (Part.counted (class_of x))
 
 -- how many children it stands for, in a record that counts n
 abbrev pub times : ℕ → ℕ → ℕ

@@ -21,7 +21,7 @@ use Rattle.text.specs.Tree.TypeSpecifierNonArray.{Keyword, TypeName}
 use Rattle.text.specs.Tree.ArraySpecifier.{no_dimensions, dimensions}
 use Rattle.text.specs.Tree.ArraySpecifierDimension.{Unsized, ExplicitlySized}
 use Rattle.text.proofs.Computing.{computing}
-use Rattle.formed.specs.Formed.{Formed-expr}
+use Rattle.formed.specs.Formed.{FormedExpr}
 use Rattle.lexis.specs.Keywords.{keywords, vulkan_keywords, reserved_words, listed_words, listed}
 use Rattle.sound.specs.Sound.{Mixed, Sound}
 
@@ -51,8 +51,8 @@ pub sample_text : text (settings_of OPEN) (show_expr sample) fresh ≡ bytes "a[
 unfolding computing
 sample_text = refl
 
-pub sample_formed : Formed-expr sample
-unfolding computing Formed-expr name_form float_form all same one_of digits behind_digits whole_part fraction nothing_or_fraction digit letter name_byte
+pub sample_formed : FormedExpr sample
+unfolding computing FormedExpr name_form float_form all same one_of digits behind_digits whole_part fraction nothing_or_fraction digit letter name_byte
 sample_formed = (
   ((refl, omega arith), ((refl, refl), ((omega arith, tt), (refl, (omega arith, tt))), (refl, ((refl, (tt, (omega arith, tt))), (tt, tt))))),
   (refl, (refl, ((refl, refl), (((refl, tt), tt), tt)))),
@@ -75,8 +75,8 @@ pub kept_text : text (settings_of EXPORT) (show_expr kept_sample) fresh ≡ byte
 unfolding computing
 kept_text = refl
 
-pub kept_formed : Formed-expr kept_sample
-unfolding computing Formed-expr name_form all same one_of digit letter name_byte
+pub kept_formed : FormedExpr kept_sample
+unfolding computing FormedExpr name_form all same one_of digit letter name_byte
 kept_formed = ((refl, refl), (refl, (refl, omega arith)))
 
 pub kept_sound : Sound listed true kept_sample

@@ -47,7 +47,7 @@ part_classes : (n x : ℕ) (ps : List Part) → classes n (part_of x ∷ ps) ≡
 unfolding classes
 part_classes n x ps = go (eqb (x / 32) 1)
   where
-    go : (b : Bool) → classes n (cond b (Part.one_of_lem (class_of x)) (Part.counted (class_of x)) ∷ ps) ≡ replicate (cond b 1 n) (class_of x) ++ classes n ps
+    go : (b : Bool) → classes n (cond b (Part.one_of (class_of x)) (Part.counted (class_of x)) ∷ ps) ≡ replicate (cond b 1 n) (class_of x) ++ classes n ps
     go true = refl
     go false = refl
 
