@@ -3,15 +3,16 @@
 #![tactic(auto)]
 
 ghost use Rattle.std.specs.Prelude.{◌≡◌, [], ◌∷◌, ◌++◌, ◌+◌, ◌≤◌, length, take};
-ghost use Rattle.io.specs.Counts.{IsPrefixLen};
+ghost use Rattle.input.specs.Counts.{IsPrefixLen};
 ghost use Rattle.decimal.specs.Decimal.{decimal};
 ghost use Rattle.settings.specs.Settings.{OPEN};
 ghost use Rattle.text.specs.Whole.{unit_text};
 ghost use Rattle.glsl.specs.Printed.{unit_outcome};
 ghost use Rattle.print.specs.Told.{refused, told, Added};
 
-use libc::STDOUT_FILENO;
 use settings::Settings;
+use std::rt::Files;
+use std::{fs, io};
 
 // The record of OPEN, its byte 21 told too.
 fn open_record() -> [u8; 22]
@@ -22,17 +23,14 @@ fn open_record() -> [u8; 22]
 }
 
 // Reads a file, at most the buffer, and answers how many bytes it has; where it can't be opened, so many as stand there already.
-fn load(path: &[u8], buf: &mut [u8], standing: usize) -> usize
+fn load(files: &impl Files, path: &str, buf: &mut [u8], standing: usize) -> usize
     requires { standing ≤ length buf.old }
     ensures { IsPrefixLen result buf.new }
 {
-    let fd = os::open_read(path);
-    if fd < 0 {
-        return standing;
+    match fs::open(files, path) {
+        Ok(mut file) => input::read_full(&mut file, buf),
+        Err(_) => standing,
     }
-    let n = io::read_full(fd, buf);
-    libc::close(fd);
-    n
 }
 
 // Bytes at a place; answers where they end.
@@ -94,7 +92,7 @@ fn answer<'a, 'b>(
     refusal_line(line, number, place)
 }
 
-fn main() {
+fn main(rt: HostRuntime) -> io::Result<()> {
     let mut settings = [0u8; 23];
     let mut tree = [0u8; 49153];
     let mut names = [0u8; 32769];
@@ -102,9 +100,9 @@ fn main() {
     let mut line = [0u8; 64];
     let open = open_record();
     room::lay(&mut settings, 0, &open);
-    let settings_length = load(b"settings.rec", &mut settings, 22);
-    let tree_length = load(b"tree.rec", &mut tree, 0);
-    let names_length = load(b"names.txt", &mut names, 0);
+    let settings_length = load(&rt, "settings.rec", &mut settings, 22);
+    let tree_length = load(&rt, "tree.rec", &mut tree, 0);
+    let names_length = load(&rt, "names.txt", &mut names, 0);
     let said = answer(
         &settings[..settings_length],
         &tree[..tree_length],
@@ -112,5 +110,5 @@ fn main() {
         &mut room,
         &mut line,
     );
-    io::write_all(STDOUT_FILENO, said);
+    rt.write_all(said)
 }

@@ -3,7 +3,7 @@
 #![tactic(auto)]
 
 ghost use Rattle.std.specs.Prelude.{◌≡◌, ◌&&◌, ◌||◌, cond, ◌+◌, ◌*◌, ◌/◌, ◌%◌, ◌≤◌, min, eqb};
-ghost use Rattle.io.specs.Counts.{IsPrefixLen};
+ghost use Rattle.input.specs.Counts.{IsPrefixLen};
 ghost use Rattle.words.specs.Form.{same};
 ghost use Rattle.records.specs.Record.{name_at};
 ghost use Rattle.settings.specs.Bytes.{settings_bytes};
@@ -15,9 +15,10 @@ ghost use Rattle.glsl.specs.Joined.{joined_number, joined_outcome};
 ghost use Rattle.replay.specs.Said.{joined_value};
 
 use glsl::{Printed, Whether};
-use libc::STDOUT_FILENO;
 use records::Record;
 use settings::{FormattingState, Settings};
+use std::rt::Files;
+use std::{fs, io};
 
 // The bytes of a record, and of the three records that begin a case.
 const RECORD: u32 = 12;
@@ -331,35 +332,34 @@ fn first_differing(sample: &[u8], room: &mut [u8]) -> u32 {
     0
 }
 
-fn report(cases: u32, differing: u32) {
+fn report(rt: &impl Print, cases: u32, differing: u32) -> io::Result<()> {
     if differing == 0 {
-        io::print_decimal(STDOUT_FILENO, cases as u64);
-        io::write_all(STDOUT_FILENO, b" cases, 0 differ\n");
+        println!(rt; "{cases} cases, 0 differ")
     } else {
-        io::write_all(STDOUT_FILENO, b"case ");
-        io::print_decimal(STDOUT_FILENO, differing as u64);
-        io::write_all(STDOUT_FILENO, b" differs\n");
+        println!(rt; "case {differing} differs")
     }
 }
 
 // What a file holds, at most the buffer; nothing where it can't be opened.
-fn load(path: &[u8], buf: &mut [u8]) -> usize
+fn load(files: &impl Files, path: &str, buf: &mut [u8]) -> usize
     ensures { IsPrefixLen result buf.new }
 {
-    let fd = os::open_read(path);
-    if fd < 0 {
-        return 0;
+    match fs::open(files, path) {
+        Ok(mut file) => input::read_full(&mut file, buf),
+        Err(_) => 0,
     }
-    let n = io::read_full(fd, buf);
-    libc::close(fd);
-    n
 }
 
 // Replays the sample in a file.
-fn replay(path: &[u8], bytes: &mut [u8], room: &mut [u8]) {
-    let n = load(path, bytes);
+fn replay(
+    rt: &(impl Files + Print),
+    path: &str,
+    bytes: &mut [u8],
+    room: &mut [u8],
+) -> io::Result<()> {
+    let n = load(rt, path, bytes);
     let sample = &bytes[..n];
-    report(cases_in(sample), first_differing(sample, room));
+    report(rt, cases_in(sample), first_differing(sample, room))
 }
 
 // Whether settings are said by this record.
@@ -396,16 +396,16 @@ fn first_other_constant() -> u32
 }
 
 // Replays all samples.
-fn replay_all(bytes: &mut [u8], room: &mut [u8]) {
-    replay(b"expressions.rec", bytes, room);
-    replay(b"units.rec", bytes, room);
-    replay(b"names.rec", bytes, room);
-    replay(b"states.rec", bytes, room);
+fn replay_all(rt: &(impl Files + Print), bytes: &mut [u8], room: &mut [u8]) -> io::Result<()> {
+    replay(rt, "expressions.rec", bytes, room)?;
+    replay(rt, "units.rec", bytes, room)?;
+    replay(rt, "names.rec", bytes, room)?;
+    replay(rt, "states.rec", bytes, room)
 }
 
-fn main() {
+fn main(rt: HostRuntime) -> io::Result<()> {
     let mut bytes = [0u8; 655360];
     let mut room = [0u8; 16384];
-    replay_all(&mut bytes, &mut room);
-    report(3, first_other_constant());
+    replay_all(&rt, &mut bytes, &mut room)?;
+    report(&rt, 3, first_other_constant())
 }
