@@ -1,13 +1,16 @@
 // Reads what a reader has into a lent array.
 #![tactic(auto)]
 
+ghost use Rattle.std.specs.Prelude.{take};
+ghost use Rattle.std.specs.Io.KnownBytes.{Consumes};
 ghost use Rattle.input.specs.Counts.{IsPrefixLen};
 
 use std::io::Read;
 
-// Reads until the array is full, the input ends or a read fails; answers how many bytes it put at the front of the array.
+// Reads until the array is full, the input ends or a read fails; answers how many bytes it put at the front of the array. Of a reader whose bytes are known they are those that it had next.
 pub fn read_full<R: Read>(reader: &mut R, buf: &mut [u8]) -> usize
-    ensures { IsPrefixLen result buf.new }
+    ensures within { IsPrefixLen result buf.new }
+    ensures bytes { Consumes (R.remaining reader.old) (R.remaining reader.new) (take result buf.new) }
 {
     let mut done = 0;
     while done < buf.len() {
@@ -18,4 +21,47 @@ pub fn read_full<R: Read>(reader: &mut R, buf: &mut [u8]) -> usize
         done += n;
     }
     done
+}
+
+#[cfg(test)]
+mod tests {
+    use super::*;
+    use std::io;
+    use std::test::Fail;
+
+    // Gives one byte a read so many times, and then fails.
+    #[derive(Drop)]
+    struct Failing {
+        times: u8,
+    }
+
+    impl Read for Failing {
+        fn read(&mut self, buf: &mut [u8]) -> io::Result<usize> {
+            if self.times == 0 || buf.is_empty() {
+                return Err(io::Error::from(io::ErrorKind::Other));
+            }
+            self.times -= 1;
+            buf[0] = self.times;
+            Ok(1)
+        }
+    }
+
+    #[test]
+    fn a_failed_read_ends_it(rt: HostRuntime) -> Result<(), Fail> {
+        let mut buf = [9u8; 4];
+        let n = read_full(&mut Failing { times: 3 }, &mut buf);
+        assert_eq!(rt; n, 3);
+        assert_eq!(rt; buf, [2, 1, 0, 9]);
+        Ok(())
+    }
+
+    #[test]
+    fn a_longer_input_is_cut(rt: HostRuntime) -> Result<(), Fail> {
+        let mut buf = [0u8; 4];
+        let mut input = io::Cursor::new(b"abcdef");
+        let n = read_full(&mut input, &mut buf);
+        assert_eq!(rt; n, 4);
+        assert_eq!(rt; buf, *b"abcd");
+        Ok(())
+    }
 }
