@@ -59,12 +59,12 @@ over_ci() {
     done
     set -- "$@" --antt-project "$kit/rattle/logic/antt-project.json" --logic-built "$kit/logic_built" --jobs 2
     mkdir -p "$root/crates/$crate/out"
-    (cd "$root/crates/$crate" && "$kit/bin/rattle" build "$@" --toolchain "$kit/toolchain" --backend llvm -o "$archive")
+    (cd "$root/crates/$crate" && "$kit/bin/rattle" build "$@" --toolchain "$kit/toolchain" --cpu x86-64 --backend llvm -o "$archive")
 }
 
 rm -f "$archive"
 if [ "$behind" = no ] || ! over_ci; then
-    (cd "$root/crates/$crate" && rt lib)
+    (cd "$root/crates/$crate" && rt lib --cpu x86-64)
 fi
 mkdir -p "$root/target/native"
 cp "$archive" "$root/target/native/lib$name.a"
