@@ -18,7 +18,8 @@ use Rattle.text.specs.Reading.{expr, unit, from}
 use Rattle.formed.proofs.Formed.{expr_formed, expr_size, unit_formed, unit_size}
 use Rattle.pen.specs.declared.Pen.{Pen}
 use Rattle.pen.specs.Free.{climbs, Free}
-use Rattle.bounded.proofs.Weight.{record_weight, deepest_level, weighs, text_weight, climbs_weight}
+use Rattle.bounded.proofs.Weight.{record_weight, deepest_level, weighs, climbs_weight}
+use Rattle.bounded.proofs.TextWeight.{text_weight}
 use Rattle.bounded.proofs.Items.{item_fits}
 
 -- commands that weigh no more than so many records may

@@ -1,4 +1,5 @@
 pub mod Weight
+pub mod TextWeight
 pub mod Texts
 pub mod Fits
 pub mod Plan

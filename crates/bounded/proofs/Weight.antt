@@ -31,10 +31,9 @@ use Rattle.text.specs.Token.Token.{name, type, int, uint, float, double, word, s
 use Rattle.text.specs.Asked.{flag, gap}
 use Rattle.text.specs.Command.{Command}
 use Rattle.text.specs.Command.Command.{token, space, space_if, space_at_body_if, newline_if, whitespace, write_indent, write_line, flush_line, flush_space, consume_newline, indent, dedent, enter_function_definition_statement, consume_function_definition_statement}
-use Rattle.text.specs.Pen.{indentation, indent_of, line_of, whitespace_text, written, after, text}
+use Rattle.text.specs.Pen.{indentation, indent_of, line_of, whitespace_text, written}
 use Rattle.lexis.proofs.Fixed.{types_from, others, fixed_tokens, find, every, found_passes, word_found, symbol_found, type_found}
 use Rattle.pen.specs.Free.{climb, climbs}
-use Rattle.pen.proofs.Written.{after_level}
 
 -- A record's commands weigh at most `record_weight` (proofs/Fits.antt), so that 4,096 records weigh less than 2^32; and since a level weighs half of
 -- that, they enter at most two levels a record. No line is longer than the indent of so many levels. The dearest record is a function: three lines and a
@@ -154,7 +153,7 @@ module _ (s : Settings) (narrow : s.count ≤ widest_indent) where
   unfolding line_of
   line_short st h = omega (arith, indent_short st h)
 
-  written_weight : (c : Command) (st : FormattingState) → st.indentation_level ≤ deepest_level → length (written s c st) ≤ weigh c
+  pub written_weight : (c : Command) (st : FormattingState) → st.indentation_level ≤ deepest_level → length (written s c st) ≤ weigh c
   unfolding written
   written_weight (token t) st h = spell_weight t
   written_weight space st h = omega arith
@@ -171,17 +170,6 @@ module _ (s : Settings) (narrow : s.count ≤ widest_indent) where
   written_weight dedent st h = omega arith
   written_weight enter_function_definition_statement st h = omega arith
   written_weight consume_function_definition_statement st h = omega arith
-
-  -- the text of commands is no longer than they weigh
-  pub text_weight : (cs : List Command) (st : FormattingState) → st.indentation_level + climbs cs ≤ deepest_level → length (text s cs st) ≤ weighs cs
-  unfolding text weighs climbs
-  text_weight [] st h = omega arith
-  text_weight (c ∷ cs) st h = omega (
-    arith,
-    length-append (written s c st) (text s cs (after s c st)),
-    written_weight c st (omega arith),
-    text_weight cs (after s c st) (omega (arith, after_level s c st)),
-  )
 
 -- the levels that they enter weigh, too
 
