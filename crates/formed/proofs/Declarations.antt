@@ -8,7 +8,7 @@ use Rattle.shapes.specs.Class.Class.{expr, type, identifier, parameter_identifie
 use Rattle.text.specs.Tree.{Identifier, FunctionParameterDeclaration, FunctionPrototype, Initializer, Initializers, SingleDeclaration, SingleDeclarationNoType, InitDeclaratorList, Block, Declaration}
 use Rattle.formed.specs.Formed.{Name, IfThere, Each, FormedParameter, FormedDeclarator, FormedInitializers, FormedSingle, FormedBlock}
 use Rattle.formed.proofs.Plan.{Items, items, Row, ◌so◌, reads}
-use Rattle.formed.proofs.Plan.Plan.{give, one, several, some as Some-of, ◌and◌}
+use Rattle.formed.proofs.Plan.Plan.{give, one, several, some as SomeOf, ◌and◌}
 use Rattle.formed.proofs.Optional.{maybe, maybe_holds, array_if, array_if_holds, qualification_if, qualification_if_holds}
 use Rattle.text.proofs.Span.{Span, ◌then◌}
 use Rattle.formed.proofs.Kind.{Kind, by_variant}
@@ -95,7 +95,7 @@ module _ (rs ns : List ℕ) where
   unfolding opened initializers Span
   initializer_kind = by_variant rs ns initializer 45 (
       (λ n a b f. reads rs ns (give Initializer.Simple and one expr so λ x p. p))
-      then (λ n a b f. reads rs ns (give Initializer.ListOf and Some-of n f.count initializers so λ x p y q. (p, q)))
+      then (λ n a b f. reads rs ns (give Initializer.ListOf and SomeOf n f.count initializers so λ x p y q. (p, q)))
       then tt)
 
   pub block_kind : Kind rs ns block 46

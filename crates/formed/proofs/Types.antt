@@ -14,7 +14,7 @@ use Rattle.text.specs.Tree.{Identifier, TypeSpecifier, TypeSpecifiers, TypeSpeci
 use Rattle.text.specs.Reading.{storage_of}
 use Rattle.formed.specs.Formed.{KeywordNumber, Declared, IfThere, FormedType, FormedTypes, FormedBase, FormedDimensions, FormedField, FormedFields, FormedIdentifiers, FormedSpecs, FormedIds, FormedFullType}
 use Rattle.formed.proofs.Plan.{Items, items, Row, ◌so◌, reads}
-use Rattle.formed.proofs.Plan.Plan.{give, one, several, some as Some-of, ◌and◌}
+use Rattle.formed.proofs.Plan.Plan.{give, one, several, some as SomeOf, ◌and◌}
 use Rattle.formed.proofs.Optional.{array_if, array_if_holds, qualification_if, qualification_if_holds}
 use Rattle.text.proofs.Span.{Span, ◌then◌, at}
 use Rattle.formed.proofs.Span.{between}
@@ -58,7 +58,7 @@ struct_row n s h = give (TypeSpecifierNonArray.Struct s) and several n fields so
 field_row : (n : ℕ) → 0 < n → Bool → Row FormedField
 unfolding opened identifiers
 field_row n h b =
-    give StructFieldSpecifier.field and qualification_if b and one type and Some-of n h identifiers
+    give StructFieldSpecifier.field and qualification_if b and one type and SomeOf n h identifiers
     so qualification_if_holds b (λ x p y q z r u s. (p, q, (r, s)))
 
 identifier_row : {P : ArrayedIdentifier → Type 0} (s : Identifier)
@@ -93,7 +93,7 @@ module _ (rs ns : List ℕ) where
 
   pub array_kind : Kind rs ns array 24
   unfolding opened dimensions
-  array_kind v t n a b f = reads rs ns (Some-of n f.count dimensions so λ x p y q. (p, q))
+  array_kind v t n a b f = reads rs ns (SomeOf n f.count dimensions so λ x p y q. (p, q))
 
   pub dimension_kind : Kind rs ns dimension 25
   unfolding opened Span
@@ -125,7 +125,7 @@ module _ (rs ns : List ℕ) where
 
   pub qualifier_kind : Kind rs ns qualifier 28
   unfolding opened specs
-  qualifier_kind v t n a b f = reads rs ns (Some-of n f.count specs so λ x p y q. (p, q))
+  qualifier_kind v t n a b f = reads rs ns (SomeOf n f.count specs so λ x p y q. (p, q))
 
   pub layout_id_kind : Kind rs ns layout_id 30
   unfolding opened Span
@@ -150,7 +150,7 @@ module _ (rs ns : List ℕ) where
   unfolding opened types ids Span
   others =
       (λ n a b f. reads rs ns (give TypeQualifierSpec.Subroutine and several n types so λ x p. p))
-      then (λ n a b f. reads rs ns (give TypeQualifierSpec.Layout and Some-of n f.count ids so λ x p y q. (p, q)))
+      then (λ n a b f. reads rs ns (give TypeQualifierSpec.Layout and SomeOf n f.count ids so λ x p y q. (p, q)))
       then (λ n a b f. reads rs ns (give _ so tt))
       then (λ n a b f. reads rs ns (give _ so tt))
       then (λ n a b f. reads rs ns (give _ so tt))

@@ -35,8 +35,8 @@ abbrev pub IfThere : {A : Type 0} → (A → Type 0) → Option A → Type 0
 IfThere P none = Unit
 IfThere P (some x) = P x
 
--- Expressions, types, arrays, fields and qualifiers. Where a list must have an item, the first is asked for by itself (FormedArray, -some-identifiers,
--- -qualifier, -layout, -some-initializers), and the list behind it may be empty.
+-- Expressions, types, arrays, fields and qualifiers. Where a list must have an item, the first is asked for by itself (FormedArray, FormedSomeIdentifiers,
+-- FormedQualifier, FormedLayout, FormedSomeInitializers), and the list behind it may be empty.
 unfoldable mutual
   pub FormedExpr : Expr → Type 0
   FormedExpr Expr.no_expr = ⊥

@@ -1,5 +1,5 @@
 -- `Same` is exactly "equal texts": two calls that are not refused, under the same settings, hand back equal bytes where their expressions are the same, sound or not; and where they are sound
--- and printed with spaces around operators or where they are needed, equal bytes tell that they are (demand 3, told-apart). Assumes nothing.
+-- and printed with spaces around operators or where they are needed, equal bytes tell that they are (demand 3, told_apart). Assumes nothing.
 use mathlib.Core.Path.{◌≡◌, refl, sym, ap, ◌∙◌}
 use mathlib.Core.List.{List}
 use Prim.Native.Nat.{ℕ}

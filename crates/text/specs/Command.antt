@@ -17,7 +17,7 @@ pub data Command : Type 0 where
   newline_if : Flag → Command
   -- what a Whitespace asks for: nothing, a space, or a pending newline
   whitespace : Gap → Command
-  -- the indent of the level; a newline and the indent, whatever is pending (no printer asks for them: flush-line does)
+  -- the indent of the level; a newline and the indent, whatever is pending (no printer asks for them: flush_line does)
   write_indent write_line : Command
   -- a pending newline: is written, with the indent; is written as a space; is forgotten
   flush_line flush_space consume_newline : Command

@@ -23,7 +23,7 @@ unary_sign UnaryOp.Complement = 0
 abbrev pub sign_if : (bare : Bool) → ℕ → ℕ
 sign_if bare s = cond bare s 0
 
--- what the text of an expression begins with: its own sign, or that of its first operand, which is bare where show-expr has it so
+-- what the text of an expression begins with: its own sign, or that of its first operand, which is bare where show_expr has it so
 unfoldable mutual
   pub sign : Expr → ℕ
   sign Expr.no_expr = 0

@@ -78,7 +78,7 @@ without_types (TypeSpecifiers.types t ts) = false
 
 -- Types, structs, arrays, qualifiers and expressions call each other. Inside are also: show_type_name, show_struct_non_declaration (clause Struct),
 -- show_storage_qualifier, show_subroutine, show_layout_qualifier, show_precision_qualifier and show_interpolation_qualifier (clauses of
--- show-type-qualifier-spec), show_float and show_double (tokens, spelled in Token.antt). A plural is the loop over what it lists.
+-- show_type_qualifier_spec), show_float and show_double (tokens, spelled in Token.antt). A plural is the loop over what it lists.
 unfoldable mutual
   pub show_type_specifier_non_array : TypeSpecifierNonArray → List Command
   show_type_specifier_non_array TypeSpecifierNonArray.no_base = []
@@ -322,7 +322,7 @@ module _ (collapse : Bool) where
     show_statements (Statements.statements s ss) = show_statement s ++ show_statements ss
 
   -- 000 collapses where the setting says so, there is one statement, and no function's body begins here; the last is known to whoever asks (within
-  -- show-statement, where it is no function's body, the same is written out)
+  -- show_statement, where it is no function's body, the same is written out)
   abbrev pub show_compound_statement : (body : Bool) → Statements → List Command
   show_compound_statement body ss = braced_or_collapsed (not body && collapse && single_item ss) (show_statements ss)
 
