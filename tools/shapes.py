@@ -1,7 +1,7 @@
 #!/usr/bin/env python3
-"""shapes.py: writes crates/shapes/src/rows.rt, the constant table of the record check, from the readable rows in crates/shapes/specs. The layout is
-that of specs/Table.antt. Run it from the repository's root after a row was changed; `shapes.py --check` only says whether the file is up to date.
-That the table says what the rows say is proved, so nothing here need be believed."""
+"""shapes.py: writes crates/shapes/src/rows.rt, the constant rows of the record check, from the readable ones in crates/shapes/specs, as the types of
+its src/lib.rt. Run it from the repository's root after a row was changed; `shapes.py --check` only says whether the file is up to date.
+That the ones say what the others say is proved, so nothing here need be believed."""
 import re
 import sys
 
@@ -9,20 +9,19 @@ SPECS = "crates/shapes/specs/"
 TARGET = "crates/shapes/src/rows.rt"
 FIELDS = ["empty", "integer", "name", "declared", "float"]
 COUNTS = ["unused", "any", "positive"]
-KINDS, CLASSES, ANY_VARIANT, ROW, PARTS = 256, 32, 255, 8, 4
+ANY_VARIANT = 255
 
 
 def read(name):
     return re.sub(r"^ *--.*\n", "", open(SPECS + name, encoding="utf-8").read(), flags=re.M)
 
 
-def class_numbers():
-    listed = re.search(r"class_of c = get_or \((.*?)∷ \[\]\) \(c % most_classes\) (\S+)", read("Table.antt")).groups()
-    return [word.strip() for word in listed[0].split("∷") if word.strip()] + [listed[1]]
+def class_names():
+    return " ".join(re.findall(r"^  (.*) : Class$", read("Class.antt"), re.M)).split()
 
 
 def allowed(text):
-    """(low, high, also, least, most, declares) of a line such as `1 to 16 or 20` or `declaring (only 27)`"""
+    """the fields of a line such as `1 to 16 or 20` or `declaring (only 27)`"""
     declares = text.startswith("declaring ")
     if declares:
         text = text.removeprefix("declaring ").strip("()")
@@ -31,7 +30,7 @@ def allowed(text):
     low, _, high = kinds.replace("only ", "").partition(" to ")
     low, high = int(low), int(high or low)
     least, most = map(int, variants.strip("()").split(" to ")) if variants else (0, ANY_VARIANT)
-    return [low, high, int(also or low), least, most, int(declares)]
+    return {"low": low, "high": high, "also": int(also or low), "least": least, "most": most, "declares": str(declares).lower()}
 
 
 class Rows:
@@ -86,57 +85,78 @@ class Rows:
         return [] if word == "[]" else word
 
 
-def padded(numbers):
-    assert len(numbers) <= ROW, f"a row of {len(numbers)} bytes"
-    return numbers + [0] * (ROW - len(numbers))
+def camel(word):
+    return "".join(part.capitalize() for part in word.split("_"))
 
 
-def row(numbers, fields, count, parts):
-    assert len(parts) <= PARTS, f"{len(parts)} parts"
-    return padded([FIELDS.index(fields), COUNTS.index(count)] + [numbers.index(c) + (32 if times == "one" else 64) for times, c in parts])
+def literal(name, fields, indent):
+    """a struct of these fields, broken as `rt fmt` breaks it"""
+    inline = ", ".join(f"{field}: {value}" for field, value in fields.items())
+    if len(inline) <= 18:
+        return f"{name} {{ {inline} }}"
+    return f"{name} {{\n" + "".join(f"{indent}    {field}: {value},\n" for field, value in fields.items()) + f"{indent}}}"
 
 
-def with_rows(rows, more):
-    """The rows with more of them, and where these begin: where they stand already, or at the end, which may have their front. So equal rows are stored once."""
-    at = next(at for at in range(len(rows) + 1) if rows[at : at + len(more)] == more[: len(rows) - at])
-    return rows + more[len(rows) - at :], at
+def with_parts(parts, more):
+    """The parts with more of them, and where these begin: where they stand already, or at the end, which may have their front. So equal ones are stored once."""
+    at = next(at for at in range(len(parts) + 1) if parts[at : at + len(more)] == more[: len(parts) - at])
+    return parts + more[len(parts) - at :], at
+
+
+def shape_name(fields, count, parts):
+    """what a and b hold and what the count is, where they are used, and the parts"""
+    used = [word for word in (fields, count) if word not in ("empty", "unused")]
+    return "_".join(used + [c if times == "one" else f"several_{c}" for times, c in parts] or ["nothing"]).upper()
 
 
 def table():
-    numbers = class_numbers()
-    lines = dict(re.findall(r"^allowed Class\.(\S+) = (.*)$", read("Class.antt"), re.M))
+    """the shapes by name; for each kind the names of its variants' (a kind that is not listed has one, of nothing)"""
     last = {k: row[0] for k, row in Rows(0).all().items()}
-    shapes = [Rows(v).all() for v in range(max(last.values()) + 1)]
-    rows, first = [padded([])], {}
-    # the kinds with the most variants first: the rows of others are often among theirs
-    for k in sorted(last, key=lambda k: (-last[k], k)):
-        rows, first[k] = with_rows(rows, [row(numbers, *shapes[v][k][1:]) for v in range(last[k] + 1)])
-    heads = [byte for k in range(KINDS) for byte in (last.get(k, 0), first.get(k, 0))]
-    classes = [padded(allowed(lines[name])) for name in numbers]
-    assert len(classes) <= CLASSES, f"{len(classes)} classes"
-    classes += [classes[-1]] * (CLASSES - len(classes))
-    return heads, sum(rows, []), sum(classes, [])
+    by_variant = [Rows(v).all() for v in range(max(last.values()) + 1)]
+    nothing = ("empty", "unused", [])
+    kinds = {k: [by_variant[v][k][1:] for v in range(last[k] + 1)] for k in last}
+    shapes = {shape_name(*nothing): nothing}
+    for one in sum(kinds.values(), []):
+        assert shapes.setdefault(shape_name(*one), one) == one, "two shapes of one name"
+    return shapes, {k: [shape_name(*one) for one in kinds[k]] for k in kinds}
 
 
-def literal(numbers, width):
-    assert all(n < 256 for n in numbers), "a number is no byte"
-    lines = [numbers[i : i + width] for i in range(0, len(numbers), width)]
-    return "\\\n".join("".join(f"\\x{n:02x}" for n in line) for line in lines)
+def row(fields, count, first, end):
+    assert fields in FIELDS and count in COUNTS
+    return literal("Row", {"fields": "Fields::" + camel(fields), "count": "Count::" + camel(count), "first": first, "end": end}, "")
+
+
+def array(name, kind, lines):
+    count = sum(not line.startswith("//") for line in lines)
+    return f"pub(crate) static {name}: [{kind}; {count}] = [\n" + "".join(f"    {line}\n" for line in lines) + "];\n"
 
 
 def written():
-    heads, rows, classes = table()
-    everything = heads + rows + classes
-    places = {"first_row": len(heads), "first_class_row": len(heads) + len(rows), "cells": len(everything)}
-    for name, number in places.items():
-        assert f"\n{name} = {number}\n" in read("Table.antt"), f"specs/Table.antt must say {name} = {number}"
+    shapes, kinds = table()
+    parts, rows = [], {}
+    # the shapes with the most parts first: those of others are often among theirs
+    for name, (fields, count, own) in sorted(shapes.items(), key=lambda item: -len(item[1][2])):
+        parts, first = with_parts(parts, own)
+        rows[name] = row(fields, count, first, first + len(own))
+    lines, heads, found = ["NOTHING,"], [], 1
+    for k in range(max(kinds) + 1):
+        heads.append({"last": len(kinds[k]) - 1, "first": found} if k in kinds else {"last": 0, "first": 0})
+        lines += [f"// {k}"] * (k in kinds) + [f"{name}," for name in kinds.get(k, [])]
+        found += len(kinds.get(k, []))
+    places = dict(re.findall(r"^allowed Class\.(\S+) = (.*)$", read("Class.antt"), re.M))
     return (
-        "// The table's bytes, and where its sections begin. Written by tools/shapes.py from the rows in specs/.\n"
-        f"pub type Shapes = [u8; {len(everything)}];\n\n"
-        "// Behind a head of 2 bytes for each kind, its last variant and its first row: rows of 8 bytes, which kinds may share, and one for each class.\n"
-        f"pub const FIRST_ROW: usize = {places['first_row']};\n\n"
-        f"pub const FIRST_CLASS: usize = {places['first_class_row']};\n\n"
-        f"pub const TABLE: Shapes = *b\"\\\n{literal(everything, 32)}\";\n"
+        "// What the shapes hold, with the parts from `first` up to `end`; the shapes of each kind, by variant, and where they begin; and what each class asks\n"
+        "// for. Written by tools/shapes.py from specs/.\n"
+        "use crate::Part::{Counted, OneOf};\n"
+        "use crate::{Allowed, Class, Count, Fields, Kind, Part, Row};\n\n"
+        + array("PARTS", "Part", [("OneOf" if times == "one" else "Counted") + f"(Class::{camel(c)})," for times, c in parts])
+        + "".join(f"\nconst {name}: Row = {rows[name]};\n" for name in shapes)
+        + "\n"
+        + array("ROWS", "Row", lines)
+        + "\n"
+        + array("KINDS", "Kind", [literal("Kind", head, "    ") + "," for head in heads])
+        + "\n"
+        + array("ALLOWED", "Allowed", [literal("Allowed", allowed(places[name]), "    ") + "," for name in class_names()])
     )
 
 

@@ -141,7 +141,7 @@ pub const SLOTS: usize = {first_slot};
 pub const FLAWS: usize = {first_slot + SLOTS};
 
 // A row a line: the text, blanks, and the text's length. Then the row for each slot, and the flaws of each byte.
-pub const TABLE: Words = *b"\\
+pub static TABLE: Words = *b"\\
 {table()}\\
 {numbers(slots)}\\
 {numbers(flaws)}";

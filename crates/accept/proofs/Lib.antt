@@ -1,4 +1,2 @@
 pub mod Faults
 pub mod Accepted
-pub mod Codes
-pub mod Rows

@@ -1,6 +1,6 @@
 -- The record check: which refusal, and where (01, "Calls"): sizes first; then the first faulty record in preorder decides, by the first of its faults in
 -- 01's order, with 02's 15 directly behind 11; then what is left over. (1 and 13 are the calls'.) Assumes nothing.
-use Rattle.std.specs.Prelude.{Bool, false, not, ◌&&◌, ◌||◌, cond, List, [], ◌∷◌, ℕ, zero, suc, ◌+◌, ◌*◌, ◌%◌, eqb, ltb, leb, length, replicate}
+use Rattle.std.specs.Prelude.{Bool, false, not, ◌&&◌, ◌||◌, cond, List, [], ◌∷◌, ℕ, zero, suc, ◌+◌, ◌*◌, ◌%◌, eqb, ltb, leb, length, replicate, Ok, Err}
 use Rattle.std.proofs.Math.Option.{Option, none, some}
 use Rattle.words.specs.Form.{name_form, float_form, reserved}
 use Rattle.records.specs.declared.Record.{Record}
@@ -9,8 +9,7 @@ use Rattle.shapes.specs.Class.{Class, allowed, takes_kind, takes_variant}
 use Rattle.shapes.specs.Shape.{Fields, Count, Shape, fields_in, last_variant, shape_of, classes}
 use Rattle.accept.specs.declared.Refusal.{Refusal}
 use Rattle.accept.specs.declared.Refusal.TheVariants as Why
-use Rattle.accept.specs.declared.Checked.{Checked}
-use Rattle.accept.specs.declared.Checked.TheVariants.{Next, Refused}
+use Rattle.accept.specs.Checked.{Checked, refused}
 
 -- limits
 abbrev pub most_records : ℕ
@@ -108,17 +107,17 @@ fault_of names left c r = first_found (faults names left c r)
 
 -- record i by its first fault: the record behind it, or the refusal
 abbrev pub judged : ℕ → Option Refusal → Checked
-judged i none = Next (i + 1)
-judged i (some x) = Refused x i
+judged i none = Ok (i + 1)
+judged i (some x) = refused x i
 
 -- one walk behind the other, until one refuses
 abbrev pub bind : Checked → (ℕ → Checked) → Checked
-bind (Next m) f = f m
-bind (Refused x p) f = Refused x p
+bind (Ok m) f = f m
+bind (Err r) f = Err r
 
 -- a tree for each class, one behind the other
 abbrev pub each : (Class → ℕ → Checked) → List Class → ℕ → Checked
-each f [] i = Next i
+each f [] i = Ok i
 each f (c ∷ cs) i = bind (f c i) (each f cs)
 
 -- the classes of a record's children
@@ -132,7 +131,7 @@ records_out_of_size records = eqb (length records) 0 || not (eqb (length records
 module _ (records names : List ℕ) where
   -- record i by itself. A walk comes to i from i - 1, so where none stands i is the record count (accepted, specs/Placed).
   unfoldable pub alone : ℕ → Class → ℕ → Checked
-  alone left c i = cond (ltb i (record_count records)) (judged i (fault_of names left c (record_at records i))) (Refused Why.RecordMissing i)
+  alone left c i = cond (ltb i (record_count records)) (judged i (fault_of names left c (record_at records i))) (refused Why.RecordMissing i)
 
   -- the tree whose root is record i, where so many levels are left: where none is left, its root is refused
   unfoldable pub node : ℕ → Class → ℕ → Checked
@@ -145,11 +144,11 @@ module _ (records names : List ℕ) where
 
   -- the tree is all of the records
   abbrev pub nothing_behind : ℕ → Checked
-  nothing_behind m = cond (eqb m (record_count records)) (Next m) (Refused Why.RecordsLeftOver m)
+  nothing_behind m = cond (eqb m (record_count records)) (Ok m) (refused Why.RecordsLeftOver m)
 
   -- the whole, for a root of class c
   unfoldable pub check : Class → Checked
   check c =
-      cond (records_out_of_size records) (Refused Why.RecordsOutOfSize 0)
-      (cond (ltb most_name_bytes (length names)) (Refused Why.NamesOutOfSize 0)
+      cond (records_out_of_size records) (refused Why.RecordsOutOfSize 0)
+      (cond (ltb most_name_bytes (length names)) (refused Why.NamesOutOfSize 0)
       (bind (node deepest c 0) nothing_behind))

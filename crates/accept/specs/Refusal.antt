@@ -1,9 +1,8 @@
 -- The numbers of the refusals, 01's and 02's, and the number and place for each answer of the check (01, "Calls"). Assumes nothing.
-use Rattle.std.specs.Prelude.{ℕ}
+use Rattle.std.specs.Prelude.{ℕ, Ok, Err}
 use Rattle.accept.specs.declared.Refusal.{Refusal}
 use Rattle.accept.specs.declared.Refusal.TheVariants as Why
-use Rattle.accept.specs.declared.Checked.{Checked}
-use Rattle.accept.specs.declared.Checked.TheVariants as Answer
+use Rattle.accept.specs.Checked.{Checked}
 
 abbrev pub number : Refusal → ℕ
 number Why.SettingsOutOfRange = 1
@@ -24,10 +23,10 @@ number Why.ReservedDeclared = 15
 
 -- the number of the refusal; 0 is none
 abbrev pub checked_number : Checked → ℕ
-checked_number (Answer.Next m) = 0
-checked_number (Answer.Refused x p) = number x
+checked_number (Ok m) = 0
+checked_number (Err r) = number r.refusal
 
 -- the place that goes with it; where nothing is refused, the record behind the tree
 abbrev pub checked_place : Checked → ℕ
-checked_place (Answer.Next m) = m
-checked_place (Answer.Refused x p) = p
+checked_place (Ok m) = m
+checked_place (Err r) = r.place

@@ -1,22 +1,22 @@
 // The refusals of the record check, and its tests of a record by itself, in the documents' order. (Crate walk takes all records; specs/Check defines the whole.)
-// What is tested goes by the table of crate shapes, which is made once and lent down.
+// What is tested goes by the shapes of crate shapes.
 #![tactic(auto)]
 
-ghost use Rattle.std.specs.Prelude.{◌≡◌, ◌&&◌, ◌||◌, ◌+◌, ◌^◌, ◌≤◌, ◌<◌, leb, eqb};
-ghost use Rattle.word_table.specs.Table as WordTable;
+ghost use Rattle.std.specs.Prelude.{◌≡◌, ◌&&◌, ◌+◌, ◌^◌, ◌≤◌, ◌<◌, leb};
 ghost use Rattle.shapes.specs.Class.{takes_variant};
-ghost use Rattle.shapes.specs.Table as ShapeTable;
+ghost use Rattle.shapes.specs.Shape.{Fields as Held, last_variant};
+ghost use Rattle.shapes.specs.Table as Table;
+ghost use Rattle.accept.specs.Refusal.{number};
 ghost use Rattle.accept.specs.Check as Check;
 
-use records::Record;
-use shapes::rows::Shapes;
-use word_table::rows::Words;
+use records::{Record, Tree};
+use shapes::{Allowed, Class, Count, Fields, Shape};
 use words::NameSort;
 
-// 01's refusals, in its order, and 02's (specs/Refusal has their numbers). The check gives all but 1 and 13.
-#[derive(Clone, Copy)]
+// 01's refusals, and 02's, with their numbers. The check gives all but 1 and 13.
+#[derive(Clone, Copy, Debug, PartialEq, Eq)]
 pub enum Refusal {
-    SettingsOutOfRange,
+    SettingsOutOfRange = 1,
     RecordsOutOfSize,
     NamesOutOfSize,
     RecordMissing,
@@ -29,198 +29,168 @@ pub enum Refusal {
     TextMisformed,
     RecordsLeftOver,
     RoomTooSmall,
-    ReservedDeclared,
+    ReservedDeclared = 15,
 }
 
-// The record behind a tree, or a refusal and its place.
-#[derive(Clone, Copy)]
-pub enum Checked {
-    Next(usize),
-    Refused(Refusal, usize),
+// A refusal and its place. What is accepted is answered by the record behind it.
+#[derive(Clone, Copy, Debug, PartialEq, Eq)]
+pub struct Refused {
+    pub refusal: Refusal,
+    pub place: usize,
 }
 
-// Codes of a row's fields (shapes, specs/Table): from the first on they are a text, from the last on a float's.
-const FIRST_TEXT: u8 = 2;
-
-const DECLARED_NAME: u8 = 3;
-
-const FLOAT: u8 = 4;
-
-// Is the count 0 where there must be one?
-fn count_missing(t: &Shapes, row: usize, n: u16) -> bool
-    requires { row + ShapeTable.row_size ≤ ShapeTable.first_class_row }
-    ensures { result ≡ Check.count_missing (ShapeTable.shape_at t.now row).count n }
-{
-    match shapes::cell(t, row + 1) {
-        // unused
-        0 => false,
-        // any
-        1 => false,
-        // positive
-        _ => n == 0,
-    }
-}
-
-// Is the count not 0, and not used?
-fn count_set(t: &Shapes, row: usize, n: u16) -> bool
-    requires { row + ShapeTable.row_size ≤ ShapeTable.first_class_row }
-    ensures { result ≡ Check.count_set (ShapeTable.shape_at t.now row).count n }
-{
-    match shapes::cell(t, row + 1) {
-        // unused
-        0 => n != 0,
-        _ => false,
-    }
-}
-
-// Is a or b not 0, and not used?
-fn field_set(t: &Shapes, row: usize, a: u32, b: u32) -> bool
-    requires { row + ShapeTable.row_size ≤ ShapeTable.first_class_row }
-    ensures { result ≡ Check.field_set (ShapeTable.shape_at t.now row).fields a b }
-{
-    match shapes::cell(t, row) {
-        // empty
-        0 => (a != 0) | (b != 0),
-        // integer
-        1 => b != 0,
-        _ => false,
-    }
-}
-
-// Does a text end beyond the names? The sum of two 32 bits is taken in 64.
-fn text_beyond(t: &Shapes, row: usize, names: &[u8], a: u32, b: u32) -> bool
-    requires { row + ShapeTable.row_size ≤ ShapeTable.first_class_row }
-    ensures { result ≡ Check.text_beyond names.now (ShapeTable.shape_at t.now row).fields a b }
-{
-    match shapes::cell(t, row) {
-        // empty
-        0 => false,
-        // integer
-        1 => false,
-        _ => names.len() < (a as usize) + (b as usize),
-    }
-}
-
-// Is a name that stands in this row declared where class c is asked for?
-fn is_declared(t: &Shapes, c: u8, row: usize) -> bool
-    requires { row + ShapeTable.row_size ≤ ShapeTable.first_class_row }
-    ensures { result ≡ (eqb (ShapeTable.cell t.now row) 3 || (ShapeTable.allowed_at t.now c).declares) }
-{
-    (shapes::cell(t, row) == DECLARED_NAME) | shapes::declares(t, c)
-}
-
-// The name of record i, where class c is asked for: not in its form, or reserved and declared. Both by one walk over its bytes.
-fn name_judged(t: &Shapes, words: &Words, i: usize, c: u8, row: usize, text: &[u8]) -> Checked
-    requires { (i + 1 < 2 ^ 64) × (row + ShapeTable.row_size ≤ ShapeTable.first_class_row) × (words.now ≡ WordTable.table)
-        × (2 ≤ ShapeTable.cell t.now row) × (ShapeTable.cell t.now row < 4) }
-    ensures { result ≡ Check.judged i (Check.text_fault (ShapeTable.allowed_at t.now c).declares (ShapeTable.shape_at t.now row).fields text.now) }
-{
-    match names::name_sort(words, text) {
-        NameSort::NoName => Checked::Refused(Refusal::TextMisformed, i),
-        NameSort::Ordinary => Checked::Next(i + 1),
-        NameSort::Reserved => {
-            if is_declared(t, c, row) {
-                return Checked::Refused(Refusal::ReservedDeclared, i);
-            }
-            Checked::Next(i + 1)
+impl Refusal {
+    // This refusal, at a place.
+    pub fn at(self, place: usize) -> Refused
+        ensures { result ≡ record { refusal = self; place = place } }
+    {
+        Refused {
+            refusal: self,
+            place,
         }
     }
 }
 
-// The text of record i, where class c is asked for: a name, or a float's that is not in its form.
-fn text_judged(t: &Shapes, words: &Words, i: usize, c: u8, row: usize, text: &[u8]) -> Checked
-    requires { (i + 1 < 2 ^ 64) × (row + ShapeTable.row_size ≤ ShapeTable.first_class_row) × (words.now ≡ WordTable.table)
-        × (2 ≤ ShapeTable.cell t.now row) }
-    ensures { result ≡ Check.judged i (Check.text_fault (ShapeTable.allowed_at t.now c).declares (ShapeTable.shape_at t.now row).fields text.now) }
-{
-    if shapes::cell(t, row) < FLOAT {
-        return name_judged(t, words, i, c, row, text);
+// The number of a refusal, 01's or 02's.
+impl From<Refusal> for u64 {
+    ghost from_gives = { λ x n. (n ≡ number x) × (n ≤ 15) };
+
+    fn from(x: Refusal) -> u64 {
+        x as u64
     }
-    if words::float_form(text) {
-        return Checked::Next(i + 1);
-    }
-    Checked::Refused(Refusal::TextMisformed, i)
 }
 
-// What record i holds, where class c is asked for and it must have the shape of this row.
-fn contents(
-    t: &Shapes,
-    words: &Words,
-    names: &[u8],
-    i: usize,
-    c: u8,
-    row: usize,
-    r: Record,
-) -> Checked
-    requires { (i + 1 < 2 ^ 64) × (row + ShapeTable.row_size ≤ ShapeTable.first_class_row) × (words.now ≡ WordTable.table) }
-    ensures { result ≡ Check.judged i (Check.first_found (Check.content_faults names.now (ShapeTable.allowed_at t.now c).declares (ShapeTable.shape_at t.now row) r)) }
+// Is the count 0 where there must be one?
+fn count_missing(count: Count, n: u16) -> bool
+    ensures { result ≡ Check.count_missing (Table.count_of count) n }
 {
-    if count_missing(t, row, r.count) {
-        return Checked::Refused(Refusal::CountMissing, i);
+    match count {
+        Count::Unused | Count::Any => false,
+        Count::Positive => n == 0,
     }
-    if count_set(t, row, r.count) | field_set(t, row, r.a, r.b) {
-        return Checked::Refused(Refusal::UnusedSet, i);
+}
+
+// Is the count not 0, and not used?
+fn count_set(count: Count, n: u16) -> bool
+    ensures { result ≡ Check.count_set (Table.count_of count) n }
+{
+    match count {
+        Count::Unused => n != 0,
+        Count::Any | Count::Positive => false,
+    }
+}
+
+// Is a or b not 0, and not used?
+fn field_set(fields: Fields, a: u32, b: u32) -> bool
+    ensures { result ≡ Check.field_set (Table.fields_of fields) a b }
+{
+    match fields {
+        Fields::Empty => (a != 0) | (b != 0),
+        Fields::Integer => b != 0,
+        Fields::Name | Fields::Declared | Fields::Float => false,
+    }
+}
+
+// Does a text end beyond the names? The sum of two 32 bits is taken in 64.
+fn text_beyond(names: &[u8], fields: Fields, a: u32, b: u32) -> bool
+    ensures { result ≡ Check.text_beyond names.now (Table.fields_of fields) a b }
+{
+    match fields {
+        Fields::Empty | Fields::Integer => false,
+        _ => names.len() < (a as usize) + (b as usize),
+    }
+}
+
+// The name of record i: not in its form, or reserved where it is declared. Both by one walk over its bytes.
+// (This and the next two answer the record behind i, for which i + 1 must fit. Tried: to answer () and add 1 in `alone`; a record then takes 1 ns of 18 more.) (Put into its two callers, as it was into one: docs/SPEED.md.)
+#[inline(always)]
+fn name_judged(i: usize, declared: bool, text: &[u8]) -> Result<usize, Refused>
+    requires { i + 1 < 2 ^ 64 }
+    ensures { result ≡ Check.judged i (Check.text_fault declared Held.name text.now) }
+{
+    match names::name_sort(text) {
+        NameSort::NoName => Err(Refusal::TextMisformed.at(i)),
+        NameSort::Ordinary => Ok(i + 1),
+        NameSort::Reserved => {
+            if declared {
+                return Err(Refusal::ReservedDeclared.at(i));
+            }
+            Ok(i + 1)
+        }
+    }
+}
+
+// The text of record i, in a place that declares names or does not: a name, or a float's that is not in its form.
+fn text_judged(i: usize, declares: bool, fields: Fields, text: &[u8]) -> Result<usize, Refused>
+    requires { i + 1 < 2 ^ 64 }
+    ensures { result ≡ Check.judged i (Check.text_fault declares (Table.fields_of fields) text.now) }
+{
+    match fields {
+        Fields::Name => name_judged(i, declares, text),
+        Fields::Declared => name_judged(i, true, text),
+        Fields::Float => {
+            if words::float_form(text) {
+                return Ok(i + 1);
+            }
+            Err(Refusal::TextMisformed.at(i))
+        }
+        Fields::Empty | Fields::Integer => Ok(i + 1),
+    }
+}
+
+// What record i holds, where it must have this shape, in a place that declares names or does not.
+fn contents(
+    tree: &Tree,
+    i: usize,
+    declares: bool,
+    shape: Shape,
+    r: Record,
+) -> Result<usize, Refused>
+    requires { i + 1 < 2 ^ 64 }
+    ensures { result ≡ Check.judged i (Check.first_found (Check.content_faults tree.now.names.now declares (Table.shape_in shape) r)) }
+{
+    if count_missing(shape.count, r.count) {
+        return Err(Refusal::CountMissing.at(i));
+    }
+    if count_set(shape.count, r.count) | field_set(shape.fields, r.a, r.b) {
+        return Err(Refusal::UnusedSet.at(i));
     }
     // one branch for all tests of a text, since most records have none
-    if shapes::cell(t, row) < FIRST_TEXT {
-        return Checked::Next(i + 1);
+    if matches!(shape.fields, Fields::Empty | Fields::Integer) {
+        return Ok(i + 1);
     }
-    if text_beyond(t, row, names, r.a, r.b) {
-        return Checked::Refused(Refusal::TextBeyond, i);
+    if text_beyond(tree.names, shape.fields, r.a, r.b) {
+        return Err(Refusal::TextBeyond.at(i));
     }
-    text_judged(t, words, i, c, row, records::part_of(names, r.a, r.b))
+    text_judged(i, declares, shape.fields, tree.text_of(r))
 }
 
-// Is v one of the variants that class c takes, and of those that kind k has?
-fn variant_fits(t: &Shapes, c: u8, k: u8, v: u8) -> bool
-    ensures { result ≡ takes_variant (ShapeTable.allowed_at t.now c) v && leb v (ShapeTable.last_at t.now k) }
+// Is v one of the variants that the place takes, and of those that kind k has?
+fn variant_fits(allowed: &Allowed, k: u8, v: u8) -> bool
+    ensures { result ≡ takes_variant (Table.allowed_in allowed.now) v && leb v (last_variant k) }
 {
-    shapes::takes_variant(t, c, v) & (v <= shapes::last_variant(t, k))
+    allowed.takes_variant(v) & (v <= shapes::last_variant(k))
 }
 
-// Record i by itself, where class c is asked for and `left` levels are left.
-pub fn alone(
-    t: &Shapes,
-    words: &Words,
-    records: &[u8],
-    names: &[u8],
-    i: usize,
-    c: u8,
-    left: usize,
-) -> Checked
-    requires { (ShapeTable.Shaped t.now) × (words.now ≡ WordTable.table) }
-    ensures { result ≡ Check.alone records.now names.now left (ShapeTable.class_of c) i }
+// Record i by itself, where this class is asked for and `left` levels are left.
+#[tactic(auto, unfolding(crate::specs::Check::alone, crate::specs::Check::fault_of))]
+pub fn alone(tree: &Tree, i: usize, class: Class, left: usize) -> Result<usize, Refused>
+    ensures { result ≡ Check.alone tree.now.records.now tree.now.names.now left (Table.class_of class) i }
 {
-    if !records::stands(records, i) {
-        return Checked::Refused(Refusal::RecordMissing, i);
+    if !tree.stands(i) {
+        return Err(Refusal::RecordMissing.at(i));
     }
-    let r = records::record_at(records, i);
-    if !shapes::takes_kind(t, c, r.kind) {
-        return Checked::Refused(Refusal::KindNotAllowed, i);
+    let r = tree.record_at(i);
+    let allowed = class.allowed();
+    if !allowed.takes_kind(r.kind) {
+        return Err(Refusal::KindNotAllowed.at(i));
     }
     if left == 0 {
-        return Checked::Refused(Refusal::TooDeep, i);
+        return Err(Refusal::TooDeep.at(i));
     }
-    if !variant_fits(t, c, r.kind, r.variant) {
-        return Checked::Refused(Refusal::VariantOutOfRange, i);
+    if !variant_fits(allowed, r.kind, r.variant) {
+        return Err(Refusal::VariantOutOfRange.at(i));
     }
-    contents(
-        t,
-        words,
-        names,
-        i,
-        c,
-        shapes::row_of(t, r.kind, r.variant),
-        r,
-    )
-}
-
-// How many children a part of a row stands for, in a record that counts n.
-pub fn times(part: u8, n: u16) -> usize
-    ensures { result ≡ ShapeTable.times part n }
-{
-    if part / 32 == 1 {
-        return 1;
-    }
-    n as usize
+    let shape = shapes::shape_of(r.kind, r.variant);
+    contents(tree, i, allowed.declares, shape, r)
 }

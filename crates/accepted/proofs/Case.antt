@@ -7,7 +7,7 @@ use Rattle.words.specs.Form.{digit, letter, name_byte, all, same, one_of, name_f
 use Rattle.records.specs.Record.{record_in, record_count, record_at, part}
 use Rattle.shapes.specs.Class.{Class, allowed}
 use Rattle.shapes.specs.Shape.{rows, last_variant, shape_of, classes}
-use Rattle.accept.specs.declared.Checked.{Checked}
+use Rattle.accept.specs.Checked.{Checked}
 use Rattle.accept.specs.Check.{fault_of, alone, node, check}
 
 -- `unfolding computing` opens every definition that the check asks

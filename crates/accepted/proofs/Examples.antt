@@ -13,8 +13,8 @@ use Rattle.records.proofs.Made.{rec, plain, many, named}
 use Rattle.shapes.specs.Class.{Class}
 use Rattle.accept.specs.declared.Refusal.{Refusal}
 use Rattle.accept.specs.declared.Refusal.TheVariants as Why
-use Rattle.accept.specs.declared.Checked.{Checked}
-use Rattle.accept.specs.declared.Checked.TheVariants.{Next, Refused}
+use Rattle.accept.specs.Checked.{Checked, refused}
+use Rattle.std.specs.Prelude.{Ok}
 use Rattle.accept.specs.Check.{node, check}
 use Rattle.accepted.proofs.Case.{computing, Case, asked}
 use Rattle.accepted.proofs.Deep.{chain, depth_passes, depth_refused}
@@ -24,17 +24,17 @@ row c rs ns x = record { root = c; records = rs; names = ns; answer = x } ∷ []
 
 -- a unit or an expression, its names, and the record behind it
 abbrev unit : List ℕ → String → ℕ → List Case
-unit rs ns m = row Class.unit rs (bytes ns) (Next m)
+unit rs ns m = row Class.unit rs (bytes ns) (Ok m)
 
 abbrev expr : List ℕ → String → ℕ → List Case
-expr rs ns m = row Class.expr rs (bytes ns) (Next m)
+expr rs ns m = row Class.expr rs (bytes ns) (Ok m)
 
 -- the same, with the refusal and its place
 abbrev no_unit : List ℕ → String → Refusal → ℕ → List Case
-no_unit rs ns x p = row Class.unit rs (bytes ns) (Refused x p)
+no_unit rs ns x p = row Class.unit rs (bytes ns) (refused x p)
 
 abbrev no_expr : List ℕ → String → Refusal → ℕ → List Case
-no_expr rs ns x p = row Class.expr rs (bytes ns) (Refused x p)
+no_expr rs ns x p = row Class.expr rs (bytes ns) (refused x p)
 
 -- records
 abbrev var : ℕ → List ℕ
@@ -107,8 +107,8 @@ accepted =
     ++ unit (with_parameter 1 1 ++ parameter 1 4) "fGL_x" 10
     ++ unit (with_parameter 1 1 ++ parameter 1 2) "fgl" 10
 
-abbrev refused : List Case
-refused =
+abbrev refusals : List Case
+refusals =
     -- 2: no records; a part of one; a part behind one
     no_expr [] "" Why.RecordsOutOfSize 0
     ++ no_expr (1 ∷ 0 ∷ []) "x" Why.RecordsOutOfSize 0
@@ -184,18 +184,18 @@ ordered =
 abbrev edges : List Case
 edges =
     -- 2: the first of 4,096 records of zeros is refused for its kind; one more record, and all are
-    row Class.expr (replicate (record_size * 4096) 0) [] (Refused Why.KindNotAllowed 0)
-    ++ row Class.expr (replicate (record_size * 4097) 0) [] (Refused Why.RecordsOutOfSize 0)
+    row Class.expr (replicate (record_size * 4096) 0) [] (refused Why.KindNotAllowed 0)
+    ++ row Class.expr (replicate (record_size * 4097) 0) [] (refused Why.RecordsOutOfSize 0)
     -- 3: 32,768 bytes of names, and one more; but 2 comes first
-    ++ row Class.expr (var 0) (replicate 32768 (code "x")) (Next 1)
-    ++ row Class.expr (var 0) (replicate 32769 (code "x")) (Refused Why.NamesOutOfSize 0)
-    ++ row Class.expr [] (replicate 32769 (code "x")) (Refused Why.RecordsOutOfSize 0)
+    ++ row Class.expr (var 0) (replicate 32768 (code "x")) (Ok 1)
+    ++ row Class.expr (var 0) (replicate 32769 (code "x")) (refused Why.NamesOutOfSize 0)
+    ++ row Class.expr [] (replicate 32769 (code "x")) (refused Why.RecordsOutOfSize 0)
     -- 11: a name of 255 letters, and of 256
-    ++ row Class.expr (rec 1 0 0 0 255) (replicate 255 (code "x")) (Next 1)
-    ++ row Class.expr (rec 1 0 0 0 256) (replicate 256 (code "x")) (Refused Why.TextMisformed 0)
+    ++ row Class.expr (rec 1 0 0 0 255) (replicate 255 (code "x")) (Ok 1)
+    ++ row Class.expr (rec 1 0 0 0 256) (replicate 256 (code "x")) (refused Why.TextMisformed 0)
 
 abbrev rows : List Case
-rows = accepted ++ refused ++ ordered ++ edges
+rows = accepted ++ refusals ++ ordered ++ edges
 
 -- the definition gives each row's answer
 pub match : map asked rows ≡ map (λ c. c.answer) rows
@@ -203,17 +203,17 @@ unfolding computing
 match = refl
 
 -- 6, where few levels are left: four records one in the other, with four levels and with two
-pub levels : (node (not_op ++ not_op ++ not_op ++ var 0) (bytes "x") 4 Class.expr 0 ≡ Next 4)
-    × (node (not_op ++ not_op ++ not_op ++ var 0) (bytes "x") 2 Class.expr 0 ≡ Refused Why.TooDeep 2)
+pub levels : (node (not_op ++ not_op ++ not_op ++ var 0) (bytes "x") 4 Class.expr 0 ≡ Ok 4)
+    × (node (not_op ++ not_op ++ not_op ++ var 0) (bytes "x") 2 Class.expr 0 ≡ refused Why.TooDeep 2)
     -- at one record: 5 and 6; 6 and 7
-    × (node (many 80 0) [] 0 Class.expr 0 ≡ Refused Why.KindNotAllowed 0)
-    × (node (bool 2) [] 0 Class.expr 0 ≡ Refused Why.TooDeep 0)
+    × (node (many 80 0) [] 0 Class.expr 0 ≡ refused Why.KindNotAllowed 0)
+    × (node (bool 2) [] 0 Class.expr 0 ≡ refused Why.TooDeep 0)
 unfolding computing
 levels = (refl, refl, refl, refl)
 
 -- 6, in the whole: a Variable under 199 Unary records, and under 200
-pub depth_200 : check (chain 199) (bytes "x") Class.expr ≡ Next 200
+pub depth_200 : check (chain 199) (bytes "x") Class.expr ≡ Ok 200
 depth_200 = depth_passes 199 (omega arith)
 
-pub depth_201 : check (chain 200) (bytes "x") Class.expr ≡ Refused Why.TooDeep 200
+pub depth_201 : check (chain 200) (bytes "x") Class.expr ≡ refused Why.TooDeep 200
 depth_201 = depth_refused 200 (omega arith) (omega arith)

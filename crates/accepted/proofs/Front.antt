@@ -12,17 +12,17 @@ use Rattle.records.specs.Record.{record_size, byte_at, u16_at, u32_at, record_in
 use Rattle.shapes.specs.Class.{Class}
 use Rattle.accept.specs.declared.Refusal.{Refusal}
 use Rattle.accept.specs.declared.Refusal.TheVariants.{RecordMissing}
-use Rattle.accept.specs.declared.Checked.{Checked}
-use Rattle.accept.specs.declared.Checked.TheVariants.{Next, Refused}
+use Rattle.accept.specs.Checked.{Checked, refused}
+use Rattle.std.specs.Prelude.{Ok, Err}
 use Rattle.accept.specs.Check.{fault_of, bind, each, children_of, judged, alone, node}
 
 abbrev pub later : Checked → Checked
-later (Next m) = Next (suc m)
-later (Refused x p) = Refused x (suc p)
+later (Ok m) = Ok (suc m)
+later (Err r) = refused r.refusal (suc r.place)
 
 bind_later : (x : Checked) (f g : ℕ → Checked) → ((m : ℕ) → f (suc m) ≡ later (g m)) → bind (later x) f ≡ later (bind x g)
-bind_later (Next m) f g h = h m
-bind_later (Refused x p) f g h = refl
+bind_later (Ok m) f g h = h m
+bind_later (Err r) f g h = refl
 
 each_later : (f g : Class → ℕ → Checked) → ((c : Class) (i : ℕ) → f c (suc i) ≡ later (g c i)) → (cs : List Class) (i : ℕ)
     → each f cs (suc i) ≡ later (each g cs i)
@@ -60,8 +60,8 @@ module _ (r bs : List ℕ) (one : length r ≡ record_size) where
 
   module _ (names : List ℕ) where
     judged_later : (i : ℕ) (b : Bool) (f : Option Refusal)
-        → cond b (judged (suc i) f) (Refused RecordMissing (suc i)) ≡ later (cond b (judged i f) (Refused RecordMissing i))
-    judged_later i true none = ap Next (omega arith)
+        → cond b (judged (suc i) f) (refused RecordMissing (suc i)) ≡ later (cond b (judged i f) (refused RecordMissing i))
+    judged_later i true none = ap Ok (omega arith)
     judged_later i true (some x) = refl
     judged_later i false f = refl
 

@@ -14,8 +14,8 @@ use Rattle.records.specs.Record.{record_count, record_at}
 use Rattle.shapes.specs.Class.{Class}
 use Rattle.accept.specs.declared.Refusal.{Refusal}
 use Rattle.accept.specs.declared.Refusal.TheVariants as Why
-use Rattle.accept.specs.declared.Checked.{Checked}
-use Rattle.accept.specs.declared.Checked.TheVariants.{Next, Refused}
+use Rattle.accept.specs.Checked.{Checked, refused}
+use Rattle.std.specs.Prelude.{Ok, Err}
 use Rattle.accept.specs.Refusal.{number}
 use Rattle.accept.specs.Check.{faults, fault_of, bind, each, children_of, judged, alone, node, nothing_behind, records_out_of_size, most_name_bytes, deepest, check}
 use Rattle.accepted.specs.Placed.{Stands, Placed}
@@ -24,12 +24,12 @@ use Rattle.accept.proofs.Faults.{fault_is, Found, found}
 -- where there are n records: a walk ends before a record or behind the last, or its refusal may stand there
 module _ (n : ℕ) where
   abbrev pub Walked : Checked → Type 0
-  Walked (Next m) = m ≤ n
-  Walked (Refused x p) = Stands n x p
+  Walked (Ok m) = m ≤ n
+  Walked (Err r) = Stands n r.refusal r.place
 
   walked_bind : (x : Checked) (g : ℕ → Checked) → Walked x → ((m : ℕ) → m ≤ n → Walked (g m)) → Walked (bind x g)
-  walked_bind (Next m) g p h = h m p
-  walked_bind (Refused x q) g p h = p
+  walked_bind (Ok m) g p h = h m p
+  walked_bind (Err r) g p h = p
 
   walked_each : (f : Class → ℕ → Checked) → ((c : Class) (i : ℕ) → i ≤ n → Walked (f c i)) → (cs : List Class) (i : ℕ) → i ≤ n → Walked (each f cs i)
   walked_each f h [] i k = k
@@ -53,7 +53,7 @@ module _ (records names : List ℕ) where
   unfolding alone
   walked_alone left c i k = go (ltb i n) refl
     where
-      go : (b : Bool) → ltb i n ≡ b → Walked n (cond b (judged i (fault_of names left c (record_at records i))) (Refused Why.RecordMissing i))
+      go : (b : Bool) → ltb i n ≡ b → Walked n (cond b (judged i (fault_of names left c (record_at records i))) (refused Why.RecordMissing i))
       go true e = walked_there left c (record_at records i) i (ltb-true i n e)
       go false e = let h = ltb-false i n e in omega arith
 
@@ -67,14 +67,14 @@ module _ (records names : List ℕ) where
 
   -- the first record that is left over stands
   whole : (x : Checked) → Walked n x → Placed n (bind x (nothing_behind records names))
-  whole (Refused x p) h = h
-  whole (Next m) h = go (eqb m n) refl
+  whole (Err r) h = h
+  whole (Ok m) h = go (eqb m n) refl
     where
-      go : (b : Bool) → eqb m n ≡ b → Placed n (cond b (Next m) (Refused Why.RecordsLeftOver m))
+      go : (b : Bool) → eqb m n ≡ b → Placed n (cond b (Ok m) (refused Why.RecordsLeftOver m))
       go true e = eqb-true m n e
       go false e = let d = eqb-false m n e in omega arith
 
-  sized : (a b : Bool) (x : Checked) → Placed n x → Placed n (cond a (Refused Why.RecordsOutOfSize 0) (cond b (Refused Why.NamesOutOfSize 0) x))
+  sized : (a b : Bool) (x : Checked) → Placed n x → Placed n (cond a (refused Why.RecordsOutOfSize 0) (cond b (refused Why.NamesOutOfSize 0) x))
   sized true b x h = refl
   sized false true x h = refl
   sized false false x h = h
@@ -87,10 +87,10 @@ module _ (records names : List ℕ) where
       let tree = whole x (walked deepest c 0 (omega arith)) in
       sized (records_out_of_size records) (ltb most_name_bytes (length names)) (bind x (nothing_behind records names)) tree
 
-  pub refused_there : (c : Class) (x : Refusal) (p : ℕ) → check records names c ≡ Refused x p → Stands n x p
+  pub refused_there : (c : Class) (x : Refusal) (p : ℕ) → check records names c ≡ refused x p → Stands n x p
   refused_there c x p e = subst (Placed n) e (placed c)
 
-  pub all_taken : (c : Class) (m : ℕ) → check records names c ≡ Next m → m ≡ n
+  pub all_taken : (c : Class) (m : ℕ) → check records names c ≡ Ok m → m ≡ n
   all_taken c m e = subst (Placed n) e (placed c)
 
 -- so no place is beyond the record count, and the number is one of 2 to 12, or 15 (1 and 13 are the calls')

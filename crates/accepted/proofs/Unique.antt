@@ -9,8 +9,8 @@ use lib.ListN.{get_or}
 use Rattle.shapes.specs.Class.{Class}
 use Rattle.accept.specs.declared.Refusal.{Refusal}
 use Rattle.accept.specs.declared.Refusal.TheVariants as Why
-use Rattle.accept.specs.declared.Checked.{Checked}
-use Rattle.accept.specs.declared.Checked.TheVariants.{Next, Refused}
+use Rattle.accept.specs.Checked.{Checked, refused}
+use Rattle.std.specs.Prelude.{Ok, Err}
 use Rattle.accept.specs.Refusal.{number, checked_number, checked_place}
 use Rattle.accept.specs.Check.{check}
 
@@ -71,7 +71,7 @@ number_not_zero x e =
 
 -- number and place tell answers apart
 pub told : (r s : Checked) → checked_number r ≡ checked_number s → checked_place r ≡ checked_place s → r ≡ s
-told (Next m) (Next k) e f = ap Next f
-told (Next m) (Refused y q) e f = absurd (number_not_zero y (sym e))
-told (Refused x p) (Next k) e f = absurd (number_not_zero x e)
-told (Refused x p) (Refused y q) e f = ap (λ (z : Refusal). Refused z p) (number_tells x y e) ∙ ap (Refused y) f
+told (Ok m) (Ok k) e f = ap Ok f
+told (Ok m) (Err s) e f = absurd (number_not_zero s.refusal (sym e))
+told (Err r) (Ok k) e f = absurd (number_not_zero r.refusal e)
+told (Err r) (Err s) e f = ap (λ (z : Refusal). refused z r.place) (number_tells r.refusal s.refusal e) ∙ ap (refused s.refusal) f

@@ -1,13 +1,12 @@
 -- What an accepted record is where it stands: the tests of the record check as facts (01, "Tree records", and the refusals 5 to 11 of "Calls"; 02, #105: 15).
 -- Assumes nothing.
-use Rattle.std.specs.Prelude.{◌≡◌, true, List, ℕ, ◌+◌, ◌<◌, ◌≤◌, length}
+use Rattle.std.specs.Prelude.{◌≡◌, true, List, ℕ, ◌+◌, ◌<◌, ◌≤◌, length, Ok}
 use Rattle.words.specs.declared.NameSort.TheVariants.{Ordinary}
 use Rattle.words.specs.Form.{name_form, name_sort, float_form}
 use Rattle.records.specs.declared.Record.{Record}
 use Rattle.records.specs.Record.{record_count, record_at, text_of}
 use Rattle.shapes.specs.Class.{Class, allowed, takes_kind, takes_variant}
 use Rattle.shapes.specs.Shape.{Fields, Count, fields_in, last_variant, shape_of}
-use Rattle.accept.specs.declared.Checked.TheVariants.{Next}
 use Rattle.accept.specs.Check.{deepest, node}
 
 -- what the count is
@@ -40,7 +39,7 @@ pub record Rooted (records names : List ℕ) (j : ℕ) : Type 0 where
   pub class : Class
   -- the record behind the tree
   pub next : ℕ
-  pub accepted : node records names left class j ≡ Next next
+  pub accepted : node records names left class j ≡ Ok next
   pub fits : Fits names left class (record_at records j)
   pub own : j < next
   pub within : next ≤ record_count records

@@ -1,9 +1,8 @@
 -- Where a refusal of the record check may stand: document 01's column "place" (01, "Calls"; 02, #105), a line for each refusal. Assumes nothing.
-use Rattle.std.specs.Prelude.{◌≡◌, ℕ, ◌<◌}
+use Rattle.std.specs.Prelude.{◌≡◌, ℕ, ◌<◌, Ok, Err}
 use Rattle.accept.specs.declared.Refusal.{Refusal}
 use Rattle.accept.specs.declared.Refusal.TheVariants as Why
-use Rattle.accept.specs.declared.Checked.{Checked}
-use Rattle.accept.specs.declared.Checked.TheVariants.{Next, Refused}
+use Rattle.accept.specs.Checked.{Checked}
 
 -- where there are n records, a refusal may stand at p; 1 and 13 are none of the check's
 abbrev pub Stands : ℕ → Refusal → ℕ → Type 0
@@ -24,5 +23,5 @@ Stands n Why.ReservedDeclared p = p < n
 
 -- an accepted tree is all of the records
 abbrev pub Placed : ℕ → Checked → Type 0
-Placed n (Next m) = m ≡ n
-Placed n (Refused x p) = Stands n x p
+Placed n (Ok m) = m ≡ n
+Placed n (Err r) = Stands n r.refusal r.place

@@ -9,7 +9,7 @@ use Rattle.settings.specs.declared.Settings.{Settings}
 use Rattle.settings.specs.Settings.{widest_indent}
 use Rattle.settings.specs.State.{fresh}
 use Rattle.shapes.specs.Class.{Class}
-use Rattle.accept.specs.declared.Checked.TheVariants.{Next}
+use Rattle.std.specs.Prelude.{Ok}
 use Rattle.accept.specs.Check.{most_records, check}
 use Rattle.accepted.proofs.Sizes.{few_records}
 use Rattle.text.specs.Command.{Command}
@@ -33,12 +33,12 @@ free s narrow cs n w h p at state =
     }
 
 module _ (rs ns : List ℕ) (byte : (p : ℕ) → get_or rs p 0 < 256) (m : ℕ) (s : Settings) (narrow : s.count ≤ widest_indent) where
-  pub expr_free : check rs ns Class.expr ≡ Next m → (p : Pen) → p.at ≡ 0 → p.state ≡ fresh → Free s (show_expr (expr (from rs ns 0)).tree) p
+  pub expr_free : check rs ns Class.expr ≡ Ok m → (p : Pen) → p.at ≡ 0 → p.state ≡ fresh → Free s (show_expr (expr (from rs ns 0)).tree) p
   expr_free e =
       let w = (item_fits true ns rs 0).expr.weight (expr_formed rs ns byte m e) in
       free s narrow _ (expr (from rs ns 0)).size (omega (arith, w)) (omega (arith, expr_size rs ns byte m e, few_records rs ns Class.expr m e))
 
-  pub unit_free : check rs ns Class.unit ≡ Next m → (collapse : Bool) (p : Pen) → p.at ≡ 0 → p.state ≡ fresh
+  pub unit_free : check rs ns Class.unit ≡ Ok m → (collapse : Bool) (p : Pen) → p.at ≡ 0 → p.state ≡ fresh
       → Free s (show_translation_unit collapse (unit (from rs ns 0)).tree) p
   unit_free e collapse =
       let w = (item_fits collapse ns rs 0).unit.weight (unit_formed rs ns byte m e) in

@@ -3,12 +3,12 @@ use mathlib.Core.Path.{◌≡◌, subst}
 use mathlib.Core.Bool.{true, ◌&&◌, and-eq-true_iff}
 use mathlib.Core.List.{List, [], ◌∷◌}
 use Prim.Native.Nat.{ℕ, ◌≤◌}
+use Rattle.std.specs.Prelude.{Some}
 use native.Mathlib.Omega.{arith}
 use lib.ListN.{length, drop}
 use lib.Dec.{leb}
 use borrow.Author.Tests.{leb-true}
 use Rattle.settings.specs.declared.Settings.{Settings}
-use Rattle.settings.specs.declared.SettingsRead.TheVariants as Answer
 use Rattle.settings.specs.Settings.{last_style, widest_indent, fewest_bytes, limits, in_range, is_record, settings_of, read_settings}
 use Rattle.settings.proofs.Read.{read_is}
 
@@ -24,5 +24,5 @@ in_range_lem : (bs : List ℕ) → is_record bs ≡ true → in_range bs limits 
 unfolding is_record
 in_range_lem bs e = ((and-eq-true_iff (leb fewest_bytes (length bs)) (in_range bs limits)).0 e).1
 
-pub narrow_read : (bs : List ℕ) (s : Settings) → read_settings bs ≡ Answer.Read s → s.count ≤ widest_indent
+pub narrow_read : (bs : List ℕ) (s : Settings) → read_settings bs ≡ Some s → s.count ≤ widest_indent
 narrow_read bs s e = let r = read_is bs s e in subst (λ (t : Settings). t.count ≤ widest_indent) r.1 (narrow bs (in_range_lem bs r.0))

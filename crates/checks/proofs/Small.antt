@@ -10,8 +10,8 @@ use lib.ListN.{length}
 use Rattle.records.specs.Record.{record_size, record_count}
 use Rattle.records.proofs.Laws.{split}
 use Rattle.shapes.specs.Class.{Class}
-use Rattle.accept.specs.declared.Checked.{Checked}
-use Rattle.accept.specs.declared.Checked.TheVariants.{Next, Refused}
+use Rattle.accept.specs.Checked.{Checked}
+use Rattle.std.specs.Prelude.{Ok, Err}
 use Rattle.accept.specs.Refusal.{checked_place}
 use Rattle.accept.specs.Check.{most_records, check}
 use Rattle.accepted.specs.Placed.{Placed}
@@ -19,8 +19,8 @@ use Rattle.accepted.proofs.Places.{placed, in_range_lem}
 use Rattle.accepted.proofs.Sizes.{too_many, records_refused}
 
 placed_within : (n : ℕ) (o : Checked) → Placed n o → checked_place o ≤ n
-placed_within n (Next m) h = omega (arith, h)
-placed_within n (Refused x p) h = (in_range_lem n x p h).0
+placed_within n (Ok m) h = omega (arith, h)
+placed_within n (Err r) h = (in_range_lem n r.refusal r.place h).0
 
 pub place_small : (records names : List ℕ) (c : Class) → checked_place (check records names c) ≤ most_records
 unfolding record_count

@@ -2,68 +2,45 @@
 // none of document 01's calls: the numbers of a refusal's answer are.
 #![tactic(auto)]
 
-ghost use Rattle.std.specs.Prelude.{◌≡◌, ◌^◌, ◌<◌, ◌≤◌};
+ghost use Rattle.std.specs.Prelude.{◌≡◌, ◌^◌, ◌<◌};
 ghost use Rattle.shapes.specs.Class.{Class};
-ghost use Rattle.accept.specs.Refusal.{number, checked_place};
+ghost use Rattle.accept.specs.Refusal.{checked_place};
 ghost use Rattle.accept.specs.Check.{check};
 ghost use Rattle.checks.specs.Answer.{refusal_answer, answer};
 
-use accept::{Checked, Refusal};
+use accept::Refused;
+use records::Tree;
 
-// The number of a refusal, 01's or 02's.
-pub fn number_of(x: Refusal) -> u64
-    ensures { (result ≡ number x) × (result ≤ 15) }
+// Minus the sum of the refusal's number times 2^32 and its place. (That a place has 32 bits is asked here and by the three that call it; as a type it would be made anew at each answer.)
+pub fn refusal_answer(r: Refused) -> i64
+    requires { r.place < 2 ^ 32 }
+    ensures { result ≡ refusal_answer r.refusal r.place }
 {
-    match x {
-        Refusal::SettingsOutOfRange => 1,
-        Refusal::RecordsOutOfSize => 2,
-        Refusal::NamesOutOfSize => 3,
-        Refusal::RecordMissing => 4,
-        Refusal::KindNotAllowed => 5,
-        Refusal::TooDeep => 6,
-        Refusal::VariantOutOfRange => 7,
-        Refusal::CountMissing => 8,
-        Refusal::UnusedSet => 9,
-        Refusal::TextBeyond => 10,
-        Refusal::TextMisformed => 11,
-        Refusal::RecordsLeftOver => 12,
-        Refusal::RoomTooSmall => 13,
-        Refusal::ReservedDeclared => 15,
-    }
-}
-
-// Minus the sum of the refusal's number times 2^32 and its place.
-pub fn refusal_answer(x: Refusal, place: usize) -> i64
-    requires { place < 2 ^ 32 }
-    ensures { result ≡ refusal_answer x place }
-{
-    let sum = number_of(x) * 4294967296 + (place as u64);
-    0 - (sum as i64)
+    let sum = u64::from(r.refusal) * 4294967296 + (r.place as u64);
+    -(sum as i64)
 }
 
 // The check's answer: how many records there are, or the refusal.
-fn answer_of(o: Checked) -> i64
+fn answer_of(o: Result<usize, Refused>) -> i64
     requires { checked_place o < 2 ^ 32 }
     ensures { result ≡ answer o }
 {
     match o {
-        Checked::Next(count) => count as i64,
-        Checked::Refused(x, p) => refusal_answer(x, p),
+        Ok(count) => count as i64,
+        Err(r) => refusal_answer(r),
     }
 }
 
-// The record check of a unit.
+// The record check of a unit, and of an expression: the two functions that checks_c exports.
 pub fn accept_unit(records: &[u8], names: &[u8]) -> i64
     ensures { result ≡ answer (check records.now names.now Class.unit) }
 {
-    let words = word_table::table();
-    answer_of(walk::check_unit(&words, records, names))
+    answer_of(walk::check_unit(&Tree { records, names }))
 }
 
 // The record check of an expression.
 pub fn accept_expr(records: &[u8], names: &[u8]) -> i64
     ensures { result ≡ answer (check records.now names.now Class.expr) }
 {
-    let words = word_table::table();
-    answer_of(walk::check_expr(&words, records, names))
+    answer_of(walk::check_expr(&Tree { records, names }))
 }

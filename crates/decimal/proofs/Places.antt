@@ -47,8 +47,8 @@ module _ {all : List ℕ} {n end : ℕ} {room : List ℕ} {left power place : �
   pub a_digit : left / power < 10
   a_digit = omega (arith, digit)
 
-  -- behind it
-  pub goes_on : 1 < power → Standing all n end (set room place (digit_byte (left / power))) (left % power) (power / 10) (place + 1)
+  -- behind it, where it is not the last
+  pub goes_on : place + 1 < end → Standing all n end (set room place (digit_byte (left / power))) (left % power) (power / 10) (place + 1)
   unfolding last_digits
   goes_on h = go s.exponent s.is_power s.is_left s.in_front digit s.rest
     where
@@ -66,16 +66,17 @@ module _ {all : List ℕ} {n end : ℕ} {room : List ℕ} {left power place : �
           }
 
   -- the last digit is what is left
-  last : power ≤ 1 → (left < 10) × (set room place (digit_byte left) ≡ all)
+  last : place + 1 ≡ end → (left < 10) × (set room place (digit_byte left) ≡ all)
   unfolding last_digits
-  last h = go s.exponent s.is_power s.is_left s.rest
+  last h = go s.exponent s.is_left s.in_front s.rest
     where
-      go : (k : ℕ) → power ≡ 10 ^ k → left ≡ n % 10 ^ suc k → sets room place (last_digits (suc k) n) ≡ all → (left < 10) × (set room place (digit_byte left) ≡ all)
-      go zero p l r = (omega arith, ap (λ (b : ℕ). set room place (digit_byte b)) (l ∙ sym (ap (λ (m : ℕ). m % 10) (div-one n))) ∙ r)
-      go (suc k) p l r = absurd (omega (arith, power_positive k))
+      go : (k : ℕ) → left ≡ n % 10 ^ suc k → place + suc k ≡ end → sets room place (last_digits (suc k) n) ≡ all
+          → (left < 10) × (set room place (digit_byte left) ≡ all)
+      go zero l f r = (omega arith, ap (λ (b : ℕ). set room place (digit_byte b)) (l ∙ sym (ap (λ (m : ℕ). m % 10) (div-one n))) ∙ r)
+      go (suc k) l f r = absurd (omega arith)
 
-  pub a_last_digit : power ≤ 1 → left < 10
+  pub a_last_digit : place + 1 ≡ end → left < 10
   a_last_digit h = (last h).0
 
-  pub ends : power ≤ 1 → set room place (digit_byte left) ≡ all
+  pub ends : place + 1 ≡ end → set room place (digit_byte left) ≡ all
   ends h = (last h).1

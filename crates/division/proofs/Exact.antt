@@ -8,7 +8,7 @@ use lib.Dec.{eqb}
 use lib.ListN.{get_or}
 use Rattle.records.specs.Record.{record_at, record_count}
 use Rattle.shapes.specs.Class.{Class}
-use Rattle.accept.specs.declared.Checked.TheVariants.{Next}
+use Rattle.std.specs.Prelude.{Ok}
 use Rattle.accept.specs.Check.{check}
 use Rattle.settings.specs.declared.Settings.{Settings}
 use Rattle.settings.specs.Settings.{settings_of}
@@ -66,7 +66,7 @@ module _ (settings rs ns : List ℕ) (byte : (p : ℕ) → get_or rs p 0 < 256) 
   unfolding needs_space
   asked_of n e = ap (λ (k : ℕ). somewhere (needs_here s) k rs ns 0) e
 
-  module _ (accepted : check rs ns Class.expr ≡ Next m) where
+  module _ (accepted : check rs ns Class.expr ≡ Ok m) where
     abbrev pub e : Expr
     e = (expr (from rs ns 0)).tree
 
@@ -87,7 +87,7 @@ module _ (settings rs ns : List ℕ) (byte : (p : ℕ) → get_or rs p 0 < 256) 
     unfolding expr_text
     expr_told d j = expr_spaced s rs ns ((tells s e formed).told fresh [] (whole_cut s (expr_commands rs ns) fresh d)) (asked ∙ j)
 
-  module _ (accepted : check rs ns Class.unit ≡ Next m) where
+  module _ (accepted : check rs ns Class.unit ≡ Ok m) where
     abbrev collapse : Bool
     collapse = s.collapse_single_item_compound_statements
 

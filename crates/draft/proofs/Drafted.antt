@@ -1,5 +1,6 @@
 -- Drafted, then put: a printer that starts at the front with a fresh state leaves its pen as far on as the definition's text is long, whatever the
 -- room, and where the text fits it stands at the front of the room; so a draft measures it, and a draft that it fits can be copied. Assumes nothing.
+use Rattle.std.specs.Prelude.{Ok, Err}
 use mathlib.Core.Path.{◌≡◌, refl, sym, ap, subst, ◌∙◌}
 use mathlib.Core.List.{List, ◌++◌}
 use Prim.Native.Nat.{ℕ, ◌<◌, ◌≤◌}
@@ -16,7 +17,6 @@ use Rattle.pen.specs.declared.Pen.{Pen}
 use Rattle.pen.specs.Free.{Free}
 use Rattle.pen.proofs.Written.{ran_length, pen_text, room_text}
 use Rattle.leaves.specs.Shown.{Shows}
-use Rattle.draft.specs.declared.Fit.TheVariants.{Written, TooLong}
 use Rattle.draft.specs.Root.{start}
 use Rattle.draft.specs.Put.{Puts}
 
@@ -47,7 +47,7 @@ module _ {A : Type 0} (show : A → List Command) (q : Reader A) (s : Settings) 
       long : p.at ≡ length shown
       long = measured drafted
 
-      put : {room' : List ℕ} → p.at ≤ length room → room' ≡ shown ++ drop (length shown) room → Puts shown room room' (Written p.at)
+      put : {room' : List ℕ} → p.at ≤ length room → room' ≡ shown ++ drop (length shown) room → Puts shown room room' (Ok p.at)
       unfolding Puts
       put h there = (long, h, there ∙ ap (λ (n : ℕ). shown ++ drop n room) (sym long))
 
@@ -56,13 +56,13 @@ module _ {A : Type 0} (show : A → List Command) (q : Reader A) (s : Settings) 
       front_drafted h =
           ap (λ (n : ℕ). take n draft') long ∙ ap (take (length shown)) (stands drafted (omega (arith, long, ran_length drafted.ran))) ∙ take-append_seam shown (drop (length shown) draft)
 
-      pub not_put : length room < p.at → Puts shown room room (TooLong p.at)
+      pub not_put : length room < p.at → Puts shown room room (Err (record { length = p.at }))
       unfolding Puts
       not_put h = (long, h, refl)
 
-      pub copied : {room' : List ℕ} → p.at ≤ length room → p.at ≤ length draft' → room' ≡ sets room 0 (take p.at draft') → Puts shown room room' (Written p.at)
+      pub copied : {room' : List ℕ} → p.at ≤ length room → p.at ≤ length draft' → room' ≡ sets room 0 (take p.at draft') → Puts shown room room' (Ok p.at)
       copied h h' copying = put h (copying ∙ ap (sets room 0) (front_drafted h') ∙ front_laid room (omega (arith, long)))
 
-      pub rewritten : {room' : List ℕ} {p' : Pen} → p.at ≤ length room → Shows show q s records names room p₀ room' p' → Puts shown room room' (Written p.at)
+      pub rewritten : {room' : List ℕ} {p' : Pen} → p.at ≤ length room → Shows show q s records names room p₀ room' p' → Puts shown room room' (Ok p.at)
       rewritten {room' = room'} {p' = p'} h writing =
           put h (stands (subst (λ (x : Pen). Shows show q s records names room x room' p') began writing) (omega (arith, long)))

@@ -4,17 +4,13 @@
 
 ghost use Rattle.std.specs.Prelude.{◌≡◌, ◌≤◌, length};
 ghost use Rattle.std.proofs.lemmas.List.Edits.{sets};
-ghost use Rattle.word_table.specs.Table as Table;
-ghost use Rattle.settings.specs.State.{fresh};
-ghost use Rattle.text.specs.Pen.{text};
-ghost use Rattle.pen.specs.Free.{Free};
-ghost use Rattle.leaves.specs.Shown.{Shows};
-ghost use Rattle.draft.specs.Root.{root_reader, root_show, root_commands, start};
+ghost use Rattle.leaves.specs.Shown.{ShowsOf};
+ghost use Rattle.draft.specs.Root.{root_reader, root_show, text_of, FreeOf, start};
 ghost use Rattle.draft.specs.Put.{Puts};
 
+use leaves::Source;
 use pen::Pen;
 use settings::Settings;
-use word_table::rows::Words;
 
 // A draft has 8 bytes for each of the most records that there may be, 4,096: longer texts are rare. It is zeroed at each call, so a tree of up to 512 records
 // (6,144 bytes) has a shorter one, likewise of 8 bytes for each.
@@ -24,18 +20,17 @@ const SHORT: usize = 4096;
 
 const LONG: usize = 32768;
 
-// What is put. The functions take it, here and in crate glsl, so that each is written and proved once.
+// What is put. The functions take it, here and in crate glsl, so that each is written and proved once. (An enum and not closures: what is promised speaks of what is put, by the definitions of Root.)
 #[derive(Clone, Copy)]
 pub enum Root {
     Unit,
     Expr,
 }
 
-// Whether the text fits the room, and is there: its length in either case.
-#[derive(Clone, Copy)]
-pub enum Fit {
-    Written(usize),
-    TooLong(usize),
+// The length of a text that is too long for its room.
+#[derive(Clone, Copy, Debug, PartialEq, Eq)]
+pub struct TooLong {
+    pub length: usize,
 }
 
 // Where every print starts.
@@ -50,21 +45,12 @@ fn start(s: Settings) -> Pen
 }
 
 // The printer of what is put.
-fn show_root(
-    root: Root,
-    s: Settings,
-    t: &Words,
-    records: &[u8],
-    names: &[u8],
-    room: &mut [u8],
-    pen: Pen,
-) -> Pen
-    requires { t.now ≡ Table.table }
-    ensures { Shows (root_show root s) (root_reader root) s records.now names.now room.old pen room.new result }
+fn show_root(root: Root, src: &Source, room: &mut [u8], pen: Pen) -> Pen
+    ensures { ShowsOf (root_show root src.now.settings) (root_reader root) src.now room.old pen room.new result }
 {
     match root {
-        Root::Unit => show_unit::show_translation_unit(s, t, records, names, room, pen),
-        Root::Expr => show_expr::show_expr(s, t, records, names, room, pen),
+        Root::Unit => show_unit::show_translation_unit(src, room, pen),
+        Root::Expr => show_expr::show_expr(src, room, pen),
     }
 }
 
@@ -79,41 +65,40 @@ fn copy_text(room: &mut [u8], text: &[u8])
 // Writes the text into the draft, which also measures it. A text that fits the room is copied there, or written again if it is longer than the draft:
 // one that does not fit alters no byte, so nothing can be written into the room before. That no cap of the pen is met is what accepted records and settings
 // give.
-fn put_by(
-    root: Root,
-    s: Settings,
-    t: &Words,
-    records: &[u8],
-    names: &[u8],
-    draft: &mut [u8],
-    room: &mut [u8],
-) -> Fit
-    requires { (t.now ≡ Table.table) × (Free s (root_commands root s records.now names.now) start) }
-    ensures { Puts (text s (root_commands root s records.now names.now) fresh) room.old room.new result }
+fn put_by(root: Root, src: &Source, draft: &mut [u8], room: &mut [u8]) -> Result<usize, TooLong>
+    requires { FreeOf root src.now }
+    ensures { Puts (text_of root src.now) room.old room.new result }
 {
-    let pen = start(s);
-    let drafted = show_root(root, s, t, records, names, draft, pen);
-    let n = drafted.at as usize;
-    if room.len() < n {
-        return Fit::TooLong(n);
+    let pen = start(src.settings);
+    let drafted = show_root(root, src, draft, pen);
+    let length = drafted.at as usize;
+    if room.len() < length {
+        return Err(TooLong { length });
     }
-    if draft.len() < n {
-        show_root(root, s, t, records, names, room, pen);
-        return Fit::Written(n);
+    if draft.len() < length {
+        show_root(root, src, room, pen);
+        return Ok(length);
     }
-    copy_text(room, &draft[..n]);
-    Fit::Written(n)
+    copy_text(room, &draft[..length]);
+    Ok(length)
 }
 
-// The text in the room, where it fits, by a draft on the stack.
-pub fn put(root: Root, s: Settings, t: &Words, records: &[u8], names: &[u8], room: &mut [u8]) -> Fit
-    requires { (t.now ≡ Table.table) × (Free s (root_commands root s records.now names.now) start) }
-    ensures { Puts (text s (root_commands root s records.now names.now) fresh) room.old room.new result }
+// The same by a draft of N bytes on the stack.
+fn put_in<const N: usize>(root: Root, src: &Source, room: &mut [u8]) -> Result<usize, TooLong>
+    requires { (N ≤ 32768) × FreeOf root src.now }
+    ensures { Puts (text_of root src.now) room.old room.new result }
 {
-    if records.len() <= SMALL_TREE {
-        let mut short = [0u8; SHORT];
-        return put_by(root, s, t, records, names, &mut short, room);
+    let mut draft = [0u8; N];
+    put_by(root, src, &mut draft, room)
+}
+
+// The text in the room, where it fits.
+pub fn put(root: Root, src: &Source, room: &mut [u8]) -> Result<usize, TooLong>
+    requires { FreeOf root src.now }
+    ensures { Puts (text_of root src.now) room.old room.new result }
+{
+    if src.tree.records.len() <= SMALL_TREE {
+        return put_in::<SHORT>(root, src, room);
     }
-    let mut long = [0u8; LONG];
-    put_by(root, s, t, records, names, &mut long, room)
+    put_in::<LONG>(root, src, room)
 }

@@ -7,7 +7,7 @@ use lib.ListN.{get_or}
 use Rattle.records.specs.Record.{record_at, record_count}
 use Rattle.records.proofs.Laws.{fields_small}
 use Rattle.shapes.specs.Class.{Class}
-use Rattle.accept.specs.declared.Checked.TheVariants.{Next}
+use Rattle.std.specs.Prelude.{Ok}
 use Rattle.accept.specs.Check.{each, node, check, children_of, deepest}
 use Rattle.accept.proofs.Accepted.{next_is, bind_next, node_next, node_deep}
 use Rattle.accepted.proofs.Places.{all_taken}
@@ -22,8 +22,8 @@ use Rattle.formed.proofs.Classes.{kinds}
 
 module _ (rs ns : List ℕ) where
   -- an accepted walk, if what is accepted with so many levels left reads
-  parts : (left : ℕ) → ((c : Class) (i m : ℕ) → node rs ns left c i ≡ Next m → As rs ns c i m)
-      → (cs : List Class) (i m : ℕ) → each (node rs ns left) cs i ≡ Next m → Parts rs ns cs i m
+  parts : (left : ℕ) → ((c : Class) (i m : ℕ) → node rs ns left c i ≡ Ok m → As rs ns c i m)
+      → (cs : List Class) (i m : ℕ) → each (node rs ns left) cs i ≡ Ok m → Parts rs ns cs i m
   unfolding Parts
   parts left h [] i m e = next_is i m e
   parts left h (c ∷ cs) i m e =
@@ -33,7 +33,7 @@ module _ (rs ns : List ℕ) where
   -- 32 bits are 4 bytes: the records are bytes
   module _ (byte : (p : ℕ) → get_or rs p 0 < 256) where
     -- THE theorem: an accepted tree reads as what is asked for, formed, and takes exactly the records that were walked
-    pub node_reads : (left : ℕ) (c : Class) (i m : ℕ) → node rs ns left c i ≡ Next m → As rs ns c i m
+    pub node_reads : (left : ℕ) (c : Class) (i m : ℕ) → node rs ns left c i ≡ Ok m → As rs ns c i m
     node_reads zero c i m e = node_deep rs ns (As rs ns c i m) c i m e
     node_reads (suc left) c i m e =
         let r = record_at rs i in
@@ -44,23 +44,23 @@ module _ (rs ns : List ℕ) where
         (kinds rs ns c r.kind f.kind r.variant f.variant r.count r.a r.b f.filled i m ps)
 
     -- each record of accepted records is read as what some class asks for
-    pub every_record : (c : Class) (m : ℕ) → check rs ns c ≡ Next m → (j : ℕ) → j < record_count rs → (d : Class) × (n : ℕ) × As rs ns d j n
+    pub every_record : (c : Class) (m : ℕ) → check rs ns c ≡ Ok m → (j : ℕ) → j < record_count rs → (d : Class) × (n : ℕ) × As rs ns d j n
     every_record c m e j h =
         let x = each_record rs ns c m e j h in
         (x.class, x.next, node_reads x.left x.class j x.next x.accepted)
 
     -- all of them are read as what the root asks for
-    pub root_reads : (c : Class) (m : ℕ) → check rs ns c ≡ Next m → As rs ns c 0 (record_count rs)
+    pub root_reads : (c : Class) (m : ℕ) → check rs ns c ≡ Ok m → As rs ns c 0 (record_count rs)
     root_reads c m e = subst (As rs ns c 0) (all_taken rs ns c m e) (node_reads deepest c 0 m (check_next rs ns c m e).2)
 
-    pub unit_formed : (m : ℕ) → check rs ns Class.unit ≡ Next m → FormedUnit (unit (from rs ns 0)).tree
+    pub unit_formed : (m : ℕ) → check rs ns Class.unit ≡ Ok m → FormedUnit (unit (from rs ns 0)).tree
     unit_formed m e = (root_reads Class.unit m e).formed
 
-    pub unit_size : (m : ℕ) → check rs ns Class.unit ≡ Next m → (unit (from rs ns 0)).size ≡ record_count rs
+    pub unit_size : (m : ℕ) → check rs ns Class.unit ≡ Ok m → (unit (from rs ns 0)).size ≡ record_count rs
     unit_size m e = omega (arith, (root_reads Class.unit m e).ends)
 
-    pub expr_formed : (m : ℕ) → check rs ns Class.expr ≡ Next m → FormedExpr (expr (from rs ns 0)).tree
+    pub expr_formed : (m : ℕ) → check rs ns Class.expr ≡ Ok m → FormedExpr (expr (from rs ns 0)).tree
     expr_formed m e = (root_reads Class.expr m e).formed
 
-    pub expr_size : (m : ℕ) → check rs ns Class.expr ≡ Next m → (expr (from rs ns 0)).size ≡ record_count rs
+    pub expr_size : (m : ℕ) → check rs ns Class.expr ≡ Ok m → (expr (from rs ns 0)).size ≡ record_count rs
     expr_size m e = omega (arith, (root_reads Class.expr m e).ends)

@@ -10,10 +10,8 @@ use seplogic.Ra.Ura as Ura
 use prog.Memory as Memory
 use prog.Routine as Routine
 use Rattle.text.specs.Whole.{unit_text, expr_text}
-use Rattle.glsl.specs.declared.Printed.{Printed}
-use Rattle.glsl.specs.declared.Whether.{Whether}
-use Rattle.glsl.specs.Printed.{Prints, HandsBack, PrintsBits, unit_outcome, expr_outcome}
-use Rattle.glsl.specs.Joined.{Answers, joined_outcome, joined_bits}
+use Rattle.glsl.specs.Printed.{Printed, Prints, HandsOut, PrintsBits, unit_outcome, expr_outcome}
+use Rattle.glsl.specs.Joined.{Whether, Answers, joined_outcome, joined_bits}
 use Rattle.glsl.specs.contracts.print_unit_into as UnitInto
 use Rattle.glsl.specs.contracts.print_expr_into as ExprInto
 use Rattle.glsl.specs.contracts.print_unit as UnitPart
@@ -37,15 +35,15 @@ module _ {M : Type 1} {𝓤 : Ura.Ura M} (𝓛 : Logic 𝓤) (mem : Memory.Memor
       ≡ ⌜ Prints (expr_outcome settings.now records.now names.now room.now) (expr_text settings.now records.now names.now) room.now room'.now r ⌝)
   print_expr_into κs settings records names room settings' records' names' room' g r = (refl, refl)
 
-  pub print_unit : (κs : Lifetimes.Lfts 2) (settings records names room number place settings' records' names' room' number' place' g : _) (r : _)
-      → let c = UnitPart.clauses 𝓛 mem run κs (settings, (records, (names, (room, (number, (place, tt)))))) in (c.requires g ≡ ⊤ₛ) × (c.ensures g r (settings', (records', (names', (room', (number', (place', tt))))))
-      ≡ ⌜ HandsBack (unit_outcome settings.now records.now names.now room.now) (unit_text settings.now records.now names.now) r.now number'.now place'.now ⌝)
-  print_unit κs settings records names room number place settings' records' names' room' number' place' g r = (refl, refl)
+  pub print_unit : (κs : Lifetimes.Lfts 4) (settings records names room settings' records' names' room' g : _) (r : _)
+      → let c = UnitPart.clauses 𝓛 mem run κs (settings, (records, (names, (room, tt)))) in (c.requires g ≡ ⊤ₛ) × (c.ensures g r (settings', (records', (names', (room', tt))))
+      ≡ ⌜ HandsOut (unit_outcome settings.now records.now names.now room.now) (unit_text settings.now records.now names.now) r ⌝)
+  print_unit κs settings records names room settings' records' names' room' g r = (refl, refl)
 
-  pub print_expr : (κs : Lifetimes.Lfts 2) (settings records names room number place settings' records' names' room' number' place' g : _) (r : _)
-      → let c = ExprPart.clauses 𝓛 mem run κs (settings, (records, (names, (room, (number, (place, tt)))))) in (c.requires g ≡ ⊤ₛ) × (c.ensures g r (settings', (records', (names', (room', (number', (place', tt))))))
-      ≡ ⌜ HandsBack (expr_outcome settings.now records.now names.now room.now) (expr_text settings.now records.now names.now) r.now number'.now place'.now ⌝)
-  print_expr κs settings records names room number place settings' records' names' room' number' place' g r = (refl, refl)
+  pub print_expr : (κs : Lifetimes.Lfts 4) (settings records names room settings' records' names' room' g : _) (r : _)
+      → let c = ExprPart.clauses 𝓛 mem run κs (settings, (records, (names, (room, tt)))) in (c.requires g ≡ ⊤ₛ) × (c.ensures g r (settings', (records', (names', (room', tt))))
+      ≡ ⌜ HandsOut (expr_outcome settings.now records.now names.now room.now) (expr_text settings.now records.now names.now) r ⌝)
+  print_expr κs settings records names room settings' records' names' room' g r = (refl, refl)
 
   pub glsl_print_unit : (κs : Lifetimes.Lfts 4) (settings records names room settings' records' names' room' g : _) (r : ℤ)
       → let c = UnitBits.clauses 𝓛 mem run κs (settings, (records, (names, (room, tt)))) in (c.requires g ≡ ⊤ₛ) × (c.ensures g r (settings', (records', (names', (room', tt))))

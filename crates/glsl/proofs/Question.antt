@@ -1,6 +1,7 @@
 -- The outcome of the joined question by what was found on the way: its number and its place are the check's, and small. Assumes nothing.
+use Rattle.std.specs.Prelude.{Ok, Err}
 use mathlib.Core.Path.{◌≡◌, refl, sym, ap, ◌∙◌}
-use mathlib.Core.Bool.{Bool, true, false, cond}
+use mathlib.Core.Bool.{Bool}
 use mathlib.Core.List.{List}
 use mathlib.Core.Logic.{◌⊎◌, inl, inr}
 use Prim.Native.Nat.{ℕ, ◌<◌, ◌≤◌, ◌^◌}
@@ -8,9 +9,8 @@ use native.Mathlib.Omega.{arith}
 use lib.ListN.{get_or}
 use Rattle.records.specs.Record.{record_count}
 use Rattle.shapes.specs.Class.{Class}
-use Rattle.accept.specs.declared.Refusal.{Refusal}
-use Rattle.accept.specs.declared.Checked.{Checked}
-use Rattle.accept.specs.declared.Checked.TheVariants as Check
+use Rattle.accept.specs.declared.Refused.{Refused}
+use Rattle.accept.specs.Checked.{Checked}
 use Rattle.accept.specs.Refusal.{checked_number, checked_place}
 use Rattle.accept.specs.Check.{most_records, check}
 use Rattle.accepted.proofs.Places.{refused_there, OfTheCheck, in_range_lem}
@@ -20,39 +20,34 @@ use Rattle.joined.specs.Stack.{any_joined}
 use Rattle.joined.specs.Sentence.{in_words}
 use Rattle.joined.proofs.Answer.{answer}
 use Rattle.joined.proofs.Sentence.{sentence}
-use Rattle.glsl.specs.declared.Whether.{Whether}
-use Rattle.glsl.specs.declared.Whether.TheVariants.{No, Yes, Refused}
-use Rattle.glsl.specs.Joined.{whether_joined, joined_outcome, joined_number, joined_place, refused_at, Answers}
+use Rattle.glsl.specs.Joined.{Whether, whether_joined, joined_outcome, joined_number, joined_place, refused_at, Answers}
 
 judged_place : (o : Checked) (b : Bool) → checked_place o ≤ most_records → joined_place (whether_joined o b) < 2 ^ 32
 unfolding whether_joined
-judged_place (Check.Refused x p) b h = omega arith
-judged_place (Check.Next m) true h = omega arith
-judged_place (Check.Next m) false h = omega arith
+judged_place (Err r) b h = omega arith
+judged_place (Ok m) b h = omega arith
 
 judged_told : (o : Checked) (b : Bool) → (joined_number (whether_joined o b) ≡ checked_number o) × (joined_place (whether_joined o b) ≡ refused_at o)
 unfolding whether_joined
-judged_told (Check.Refused x p) b = (refl, refl)
-judged_told (Check.Next m) true = (refl, refl)
-judged_told (Check.Next m) false = (refl, refl)
+judged_told (Err r) b = (refl, refl)
+judged_told (Ok m) b = (refl, refl)
 
-judged_refused : (o : Checked) (b : Bool) (x : Refusal) (p : ℕ) → whether_joined o b ≡ Refused x p → o ≡ Check.Refused x p
+judged_refused : (o : Checked) (b : Bool) (r : Refused) → whether_joined o b ≡ Err r → o ≡ Err r
 unfolding whether_joined
-judged_refused (Check.Refused y q) b x p e = cc
-judged_refused (Check.Next m) true x p e = let z : ◌≡◌ {A = ℕ} 0 1 = cc in absurd (omega arith)
-judged_refused (Check.Next m) false x p e = let z : ◌≡◌ {A = ℕ} 0 1 = cc in absurd (omega arith)
+judged_refused (Err q) b r e = cc
+judged_refused (Ok m) b r e = let z : ◌≡◌ {A = ℕ} 0 1 = cc in absurd (omega arith)
 
 module _ (records names : List ℕ) where
-  pub question_refused : (x : Refusal) (p : ℕ) → check records names Class.expr ≡ Check.Refused x p → joined_outcome records names ≡ Refused x p
+  pub question_refused : (r : Refused) → check records names Class.expr ≡ Err r → joined_outcome records names ≡ Err r
   unfolding whether_joined
-  question_refused x p e = ap (λ (o : Checked). whether_joined o (joined_answer records names)) e
+  question_refused r e = ap (λ (o : Checked). whether_joined o (joined_answer records names)) e
 
-  pub question_answered : (byte : (p : ℕ) → get_or records p 0 < 256) (m : ℕ) → check records names Class.expr ≡ Check.Next m
-      → {a : Bool} (b : Bool) → a ≡ any_joined records → a ≡ b → joined_outcome records names ≡ cond b Yes No
+  pub question_answered : (byte : (p : ℕ) → get_or records p 0 < 256) (m : ℕ) → check records names Class.expr ≡ Ok m
+      → {a : Bool} (b : Bool) → a ≡ any_joined records → a ≡ b → joined_outcome records names ≡ Ok b
   unfolding whether_joined
   question_answered byte m e b f g =
       ap (λ (o : Checked). whether_joined o (joined_answer records names)) e
-      ∙ ap (λ (x : Bool). cond x Yes No) (sym (answer records names byte m e) ∙ sym f ∙ g)
+      ∙ ap (λ (x : Bool). whether_joined (Ok m) x) (sym (answer records names byte m e) ∙ sym f ∙ g)
 
   -- the answer that the question has keeps its promise
   pub answers : (r : Whether) → r ≡ joined_outcome records names → Answers records names r
@@ -61,13 +56,13 @@ module _ (records names : List ℕ) where
       record { answered = e; numbered = ap joined_number e ∙ told.0; placed = ap joined_place e ∙ told.1 }
 
   -- an accepted expression's answer is document 02's sentence about its TIGHT text
-  pub answered_in_words : (byte : (p : ℕ) → get_or records p 0 < 256) (m : ℕ) → check records names Class.expr ≡ Check.Next m
-      → (r : Whether) → Answers records names r → r ≡ cond (somewhere in_words (record_count records) records names 0) Yes No
+  pub answered_in_words : (byte : (p : ℕ) → get_or records p 0 < 256) (m : ℕ) → check records names Class.expr ≡ Ok m
+      → (r : Whether) → Answers records names r → r ≡ Ok (somewhere in_words (record_count records) records names 0)
   unfolding whether_joined
   answered_in_words byte m e r a =
       a.answered
       ∙ ap (λ (o : Checked). whether_joined o (joined_answer records names)) e
-      ∙ ap (λ (x : Bool). cond x Yes No) (sentence records names byte m e)
+      ∙ ap (λ (x : Bool). whether_joined (Ok m) x) (sentence records names byte m e)
 
   pub question_small : joined_place (joined_outcome records names) < 2 ^ 32
   question_small = judged_place (check records names Class.expr) (joined_answer records names) (place_small records names Class.expr)
@@ -77,8 +72,7 @@ module _ (records names : List ℕ) where
   question_number = go (joined_outcome records names) refl
     where
       go : (o : Whether) → joined_outcome records names ≡ o → (joined_number o ≡ 0) ⊎ OfTheCheck (joined_number o)
-      go No e = inl refl
-      go Yes e = inl refl
-      go (Refused x p) e =
-          let there = refused_there records names Class.expr x p (judged_refused (check records names Class.expr) (joined_answer records names) x p e) in
-          inr (in_range_lem (record_count records) x p there).1
+      go (Ok b) e = inl refl
+      go (Err r) e =
+          let there = refused_there records names Class.expr r.refusal r.place (judged_refused (check records names Class.expr) (joined_answer records names) r e) in
+          inr (in_range_lem (record_count records) r.refusal r.place there).1

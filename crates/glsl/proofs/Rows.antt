@@ -1,5 +1,6 @@
 -- The rows of document 01, those marked P and its two other units, those of the joined question as 02, #103 mends it, in TIGHT and in OPEN, those of needed spaces (02, #106), of the new type words (02, #102) and of
 -- reserved names (02, #105), of the calls themselves: one table, one theorem, by computation from the bytes of settings, records and names. Assumes nothing.
+use Rattle.std.specs.Prelude.{Ok, Err}
 use Prim.Native.Nat.{ℕ, ◌-◌}
 use Prim.Native.Char.{code}
 use mathlib.Core.Path.{◌≡◌, refl}
@@ -10,21 +11,17 @@ use lib.Dec.{eqb}
 use lib.ListN.{length, replicate}
 use Rattle.records.proofs.Made.{rec, plain, many}
 use Rattle.accept.specs.declared.Refusal.TheVariants.{RoomTooSmall, ReservedDeclared}
+use Rattle.accept.specs.Checked.{refused}
 use Rattle.accepted.proofs.Case.{computing as checking}
 use Rattle.settings.specs.Settings.{TIGHT}
 use Rattle.text.specs.Case.{Case}
 use Rattle.text.proofs.Rows.{rows_of_01, rows_of_103, rows_of_106, rows_of_102, rows_of_105}
 use Rattle.text.proofs.Computing.{computing}
-use Rattle.glsl.specs.declared.Printed.{Printed}
-use Rattle.glsl.specs.declared.Printed.TheVariants.{Text, Refused}
-use Rattle.glsl.specs.declared.Whether.{Whether}
-use Rattle.glsl.specs.declared.Whether.TheVariants.{No, Yes}
-use Rattle.glsl.specs.declared.Whether.TheVariants as Joined
 use Rattle.draft.specs.declared.Root.{Root}
 use Rattle.draft.specs.declared.Root.TheVariants.{Unit, Expr}
 use Rattle.glsl.specs.Root.{root_text, print_outcome}
-use Rattle.glsl.specs.Printed.{fitted, outcome, room_after, front}
-use Rattle.glsl.specs.Joined.{whether_joined, joined_outcome}
+use Rattle.glsl.specs.Printed.{Printed, fitted, outcome, room_after, front}
+use Rattle.glsl.specs.Joined.{Whether, whether_joined, joined_outcome}
 
 -- text's table has the rows, with their texts as they are quoted
 abbrev pub rows : List Case
@@ -68,17 +65,17 @@ promised room c = record {
 -- what the row says
 abbrev said : Option Bool → Option Whether
 said none = none
-said (some b) = some (cond b Yes No)
+said (some b) = some (Ok b)
 
 abbrev pub claimed : List ℕ → Case → Calls
 claimed room c =
     let t = c.outcome.text in
     let o = fitted t room in
-    let whole : Print = record { answer = Text (length t); room = t; part = t } in
+    let whole : Print = record { answer = Ok (length t); room = t; part = t } in
     record {
       any = record { answer = o; room = room_after o t room; part = front o t };
       exact = whole;
-      short = cond (eqb (length t) 0) whole (record { answer = Refused RoomTooSmall (length t); room = blank (length t - 1); part = [] });
+      short = cond (eqb (length t) 0) whole (record { answer = refused RoomTooSmall (length t); room = blank (length t - 1); part = [] });
       joined = said c.outcome.joined;
     }
 
@@ -102,8 +99,8 @@ abbrev reserved_struct : List ℕ
 reserved_struct = many 12 0 ++ plain 20 0 ++ rec 23 1 0 0 4
 
 pub reserved_refused : (room : List ℕ)
-    → (print_outcome Unit TIGHT reserved_function gl_x room ≡ Refused ReservedDeclared 2)
-    × (print_outcome Expr TIGHT reserved_struct gl_x room ≡ Refused ReservedDeclared 2)
-    × (joined_outcome reserved_struct gl_x ≡ Joined.Refused ReservedDeclared 2)
+    → (print_outcome Unit TIGHT reserved_function gl_x room ≡ refused ReservedDeclared 2)
+    × (print_outcome Expr TIGHT reserved_struct gl_x room ≡ refused ReservedDeclared 2)
+    × (joined_outcome reserved_struct gl_x ≡ Err (record { refusal = ReservedDeclared; place = 2 }))
 unfolding computing checking outcome whether_joined
 reserved_refused room = (refl, refl, refl)

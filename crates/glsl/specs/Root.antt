@@ -1,14 +1,12 @@
 -- For the contracts of the functions within, which take what is printed, a unit or an expression, as an argument: the class that it is checked as, its text and its
 -- outcome, which for either is what the public calls cite (specs/Printed); and what an answer says. Assumes nothing.
-use Rattle.std.specs.Prelude.{List, ℕ}
+use Rattle.std.specs.Prelude.{List, ℕ, Ok, Err}
 use Rattle.shapes.specs.Class.{Class}
 use Rattle.text.specs.Whole.{unit_text, expr_text}
 use Rattle.settings.specs.Settings.{read_settings}
 use Rattle.accept.specs.Check.{check}
 use Rattle.draft.specs.declared.Root.{Root}
-use Rattle.glsl.specs.declared.Printed.{Printed}
-use Rattle.glsl.specs.declared.Printed.TheVariants as Answer
-use Rattle.glsl.specs.Printed.{outcome}
+use Rattle.glsl.specs.Printed.{Printed, outcome}
 
 abbrev pub root_class : Root → Class
 root_class Root.Unit = Class.unit
@@ -23,10 +21,10 @@ print_outcome root settings records names room = outcome (read_settings settings
 
 -- how long the written front of the room is
 abbrev pub written_length : Printed → ℕ
-written_length (Answer.Text n) = n
-written_length (Answer.Refused x p) = 0
+written_length (Ok n) = n
+written_length (Err r) = 0
 
 -- the number that goes with it, a length or a place
 abbrev pub value : Printed → ℕ
-value (Answer.Text n) = n
-value (Answer.Refused x p) = p
+value (Ok n) = n
+value (Err r) = r.place

@@ -2,156 +2,122 @@
 #![tactic(auto)]
 
 ghost use Rattle.std.specs.Prelude.{◌≡◌, ◌<◌, ◌^◌};
-ghost use Rattle.word_table.specs.Table as WordTable;
 ghost use Rattle.accept.specs.Check.{check};
 ghost use Rattle.text.specs.Whole.{unit_text, expr_text};
-ghost use Rattle.glsl.specs.Root.{root_class, root_text, written_length, value, print_outcome};
-ghost use Rattle.glsl.specs.Printed.{Prints, HandsBack, PrintsBits, refusal_number, refusal_place, printed_bits, unit_outcome, expr_outcome};
+ghost use Rattle.glsl.specs.Root.{root_class, root_text, value, print_outcome};
+ghost use Rattle.glsl.specs.Printed.{Prints, HandsOut, PrintsBits, printed_bits, unit_outcome, expr_outcome};
 ghost use Rattle.glsl.specs.Joined.{Answers, joined_outcome, joined_place, joined_bits};
 
-use accept::{Checked, Refusal};
-use draft::{Fit, Root};
-use settings::{Settings, SettingsRead};
-use word_table::rows::Words;
-
-// The answer of a print: the length of its text, or the refusal with its place. specs/Printed.antt gives the documents' number of each case.
-#[derive(Clone, Copy)]
-pub enum Printed {
-    Text(usize),
-    Refused(Refusal, usize),
-}
+use accept::{Refusal, Refused};
+use draft::Root;
+use leaves::Source;
+use records::Tree;
+use settings::Settings;
 
 // The record check of what is printed.
-fn check_root(root: Root, words: &Words, records: &[u8], names: &[u8]) -> Checked
-    requires { words.now ≡ WordTable.table }
-    ensures { result ≡ check records.now names.now (root_class root) }
+fn check_root(root: Root, tree: &Tree) -> Result<usize, Refused>
+    ensures { result ≡ check tree.now.records.now tree.now.names.now (root_class root) }
 {
     match root {
-        Root::Unit => walk::check_unit(words, records, names),
-        Root::Expr => walk::check_expr(words, records, names),
+        Root::Unit => walk::check_unit(tree),
+        Root::Expr => walk::check_expr(tree),
     }
 }
 
 // The text is at the front of the room, or nothing is altered. A text that is too long for the room is the last refusal, and the length that it needs is its place.
-// The table of words is made here, once, for the check and for the printers: to make it is a good part of what a small print costs.
-fn print_into(root: Root, settings: &[u8], records: &[u8], names: &[u8], room: &mut [u8]) -> Printed
+// specs/Printed.antt gives the documents' number of each refusal.
+fn print_into(
+    root: Root,
+    settings: &[u8],
+    records: &[u8],
+    names: &[u8],
+    room: &mut [u8],
+) -> Result<usize, Refused>
     ensures { Prints (print_outcome root settings.now records.now names.now room.old) (root_text root settings.now records.now names.now) room.old room.new result }
 {
-    match Settings::read(settings) {
-        SettingsRead::Refused => Printed::Refused(Refusal::SettingsOutOfRange, 0),
-        SettingsRead::Read(s) => {
-            let words = word_table::table();
-            match check_root(root, &words, records, names) {
-                Checked::Refused(x, p) => Printed::Refused(x, p),
-                Checked::Next(_) => match draft::put(root, s, &words, records, names, room) {
-                    Fit::Written(length) => Printed::Text(length),
-                    Fit::TooLong(length) => Printed::Refused(Refusal::RoomTooSmall, length),
-                },
-            }
-        }
+    let Some(settings) = Settings::read(settings) else {
+        return Err(Refusal::SettingsOutOfRange.at(0));
+    };
+    let tree = Tree { records, names };
+    check_root(root, &tree)?;
+    let src = Source { settings, tree };
+    match draft::put(root, &src, room) {
+        Ok(length) => Ok(length),
+        Err(e) => Err(Refusal::RoomTooSmall.at(e.length)),
     }
 }
 
-// Prints a unit: its text is at the front of the room, or nothing is altered.
-pub fn print_unit_into(settings: &[u8], records: &[u8], names: &[u8], room: &mut [u8]) -> Printed
+// Prints a unit: its text is at the front of the room, or nothing is altered. (A unit and an expression have calls of their own, here and below: document 01 and C name them.)
+pub fn print_unit_into(
+    settings: &[u8],
+    records: &[u8],
+    names: &[u8],
+    room: &mut [u8],
+) -> Result<usize, Refused>
     ensures { Prints (unit_outcome settings.now records.now names.now room.old) (unit_text settings.now records.now names.now) room.old room.new result }
 {
     print_into(Root::Unit, settings, records, names, room)
 }
 
 // Prints an expression, likewise.
-pub fn print_expr_into(settings: &[u8], records: &[u8], names: &[u8], room: &mut [u8]) -> Printed
+pub fn print_expr_into(
+    settings: &[u8],
+    records: &[u8],
+    names: &[u8],
+    room: &mut [u8],
+) -> Result<usize, Refused>
     ensures { Prints (expr_outcome settings.now records.now names.now room.old) (expr_text settings.now records.now names.now) room.old room.new result }
 {
     print_into(Root::Expr, settings, records, names, room)
 }
 
-// The documents' number of an answer, 0 for a text.
-fn number_of(o: Printed) -> u64
-    ensures { result ≡ refusal_number o }
-{
-    match o {
-        Printed::Text(_) => 0,
-        Printed::Refused(x, _) => checks::number_of(x),
-    }
-}
-
-// The place of a refusal, 0 for a text.
-fn place_of(o: Printed) -> u64
-    ensures { result ≡ refusal_place o }
-{
-    match o {
-        Printed::Text(_) => 0,
-        Printed::Refused(_, p) => p as u64,
-    }
-}
-
-// How long the written front of the room is.
-fn written(o: Printed) -> usize
-    ensures { result ≡ written_length o }
-{
-    match o {
-        Printed::Text(length) => length,
-        Printed::Refused(_, _) => 0,
-    }
-}
-
-// The written front of the room, empty on refusal; the refusal's number, 0 if there is none, and its place go to two lent numbers.
-fn print<'a, 'b>(
+// The written front of the room, or the refusal.
+fn print<'a>(
     root: Root,
-    settings: &'b [u8],
-    records: &'b [u8],
-    names: &'b [u8],
+    settings: &[u8],
+    records: &[u8],
+    names: &[u8],
     room: &'a mut [u8],
-    no: &'b mut u64,
-    place: &'b mut u64,
-) -> &'a mut [u8]
-    ensures { HandsBack (print_outcome root settings.now records.now names.now room.old) (root_text root settings.now records.now names.now) result.now no.new place.new }
+) -> Result<&'a mut [u8], Refused>
+    ensures { HandsOut (print_outcome root settings.now records.now names.now room.old) (root_text root settings.now records.now names.now) result }
 {
-    let o = print_into(root, settings, records, names, &mut *room);
-    *no = number_of(o);
-    *place = place_of(o);
-    let n = written(o);
-    &mut room[..n]
+    let n = print_into(root, settings, records, names, &mut *room)?;
+    Ok(&mut room[..n])
 }
 
-// Prints a unit and hands back the written front of the room, empty on refusal; the refusal's number, 0 if there is none, and its place go to two
-// lent numbers. (Of a room that is handed back in part a contract can say no more than the part: that a refusal alters nothing, and what stands behind the text, `print_unit_into` promises.)
-pub fn print_unit<'a, 'b>(
-    settings: &'b [u8],
-    records: &'b [u8],
-    names: &'b [u8],
+// Prints a unit and hands back the written front of the room, or the refusal with its place. (Of a room that is handed back in part a contract can say no more than the
+// part: that a refusal alters nothing, and what stands behind the text, `print_unit_into` promises.)
+pub fn print_unit<'a>(
+    settings: &[u8],
+    records: &[u8],
+    names: &[u8],
     room: &'a mut [u8],
-    no: &'b mut u64,
-    place: &'b mut u64,
-) -> &'a mut [u8]
-    ensures { HandsBack (unit_outcome settings.now records.now names.now room.old) (unit_text settings.now records.now names.now) result.now no.new place.new }
+) -> Result<&'a mut [u8], Refused>
+    ensures { HandsOut (unit_outcome settings.now records.now names.now room.old) (unit_text settings.now records.now names.now) result }
 {
-    print(Root::Unit, settings, records, names, room, no, place)
+    print(Root::Unit, settings, records, names, room)
 }
 
 // Prints an expression and hands back the written front of the room, likewise.
-pub fn print_expr<'a, 'b>(
-    settings: &'b [u8],
-    records: &'b [u8],
-    names: &'b [u8],
+pub fn print_expr<'a>(
+    settings: &[u8],
+    records: &[u8],
+    names: &[u8],
     room: &'a mut [u8],
-    no: &'b mut u64,
-    place: &'b mut u64,
-) -> &'a mut [u8]
-    ensures { HandsBack (expr_outcome settings.now records.now names.now room.old) (expr_text settings.now records.now names.now) result.now no.new place.new }
+) -> Result<&'a mut [u8], Refused>
+    ensures { HandsOut (expr_outcome settings.now records.now names.now room.old) (expr_text settings.now records.now names.now) result }
 {
-    print(Root::Expr, settings, records, names, room, no, place)
+    print(Root::Expr, settings, records, names, room)
 }
 
-// The 64 bits of an answer.
-fn printed_bits(o: Printed) -> i64
+// The 64 bits of an answer. (Of 32 bits: checks::refusal_answer says why that is no type.)
+fn printed_bits(o: Result<usize, Refused>) -> i64
     requires { value o < 2 ^ 32 }
     ensures { result ≡ printed_bits o }
 {
     match o {
-        Printed::Text(length) => length as i64,
-        Printed::Refused(x, p) => checks::refusal_answer(x, p),
+        Ok(length) => length as i64,
+        Err(r) => checks::refusal_answer(r),
     }
 }
 
@@ -176,40 +142,22 @@ pub fn glsl_print_expr(settings: &[u8], records: &[u8], names: &[u8], room: &mut
     print_bits(Root::Expr, settings, records, names, room)
 }
 
-// The answer to the joined question. specs/Joined.antt gives the documents' number of each case.
-#[derive(Clone, Copy)]
-pub enum Whether {
-    No,
-    Yes,
-    Refused(Refusal, usize),
-}
-
-// Whether an expression is joined.
-pub fn joined(records: &[u8], names: &[u8]) -> Whether
+// Whether an expression is joined. specs/Joined.antt gives the documents' number of each refusal.
+pub fn joined(records: &[u8], names: &[u8]) -> Result<bool, Refused>
     ensures { Answers records.now names.now result }
 {
-    let words = word_table::table();
-    match walk::check_expr(&words, records, names) {
-        Checked::Refused(x, p) => Whether::Refused(x, p),
-        Checked::Next(_) => {
-            if joined::any_joined(records) {
-                Whether::Yes
-            } else {
-                Whether::No
-            }
-        }
-    }
+    walk::check_expr(&Tree { records, names })?;
+    Ok(joined::any_joined(records))
 }
 
 // The 64 bits of an answer.
-fn joined_bits(o: Whether) -> i64
+fn joined_bits(o: Result<bool, Refused>) -> i64
     requires { joined_place o < 2 ^ 32 }
     ensures { result ≡ joined_bits o }
 {
     match o {
-        Whether::No => 0,
-        Whether::Yes => 1,
-        Whether::Refused(x, p) => checks::refusal_answer(x, p),
+        Ok(joined) => i64::from(joined),
+        Err(r) => checks::refusal_answer(r),
     }
 }
 

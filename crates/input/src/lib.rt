@@ -1,13 +1,15 @@
-// Reads what a reader has into a lent array.
+// Reads what a reader or a file has into a lent array.
 #![tactic(auto)]
 
-ghost use Rattle.std.specs.Prelude.{take};
+ghost use Rattle.std.specs.Prelude.{◌≤◌, length, take, IfSome};
 ghost use Rattle.std.specs.Io.KnownBytes.{Consumes};
 ghost use Rattle.input.specs.Counts.{IsPrefixLen};
 
+use std::fs;
 use std::io::Read;
+use std::rt::Files;
 
-// Reads until the array is full, the input ends or a read fails; answers how many bytes it put at the front of the array. Of a reader whose bytes are known they are those that it had next.
+// Reads until the array is full, the input ends or a read fails; answers how many bytes it put at the front of the array. Of a reader whose bytes are known they are those that it had next. (A `while`: a turn goes on by as many bytes as were read, and `read_exact`, which has this loop, doesn't say how many came before the end.)
 pub fn read_full<R: Read>(reader: &mut R, buf: &mut [u8]) -> usize
     ensures within { IsPrefixLen result buf.new }
     ensures bytes { Consumes (R.remaining reader.old) (R.remaining reader.new) (take result buf.new) }
@@ -21,6 +23,15 @@ pub fn read_full<R: Read>(reader: &mut R, buf: &mut [u8]) -> usize
         done += n;
     }
     done
+}
+
+// What a file holds, at most the array, in the front of which it stands; nothing where it can't be opened.
+pub fn load<'a>(files: &impl Files, path: &str, buf: &'a mut [u8]) -> Option<&'a [u8]>
+    ensures { IfSome result (λ bytes. length bytes.now ≤ length buf.old) }
+{
+    let mut file = fs::open(files, path).ok()?;
+    let n = read_full(&mut file, buf);
+    Some(&buf[..n])
 }
 
 #[cfg(test)]
@@ -62,6 +73,13 @@ mod tests {
         let n = read_full(&mut input, &mut buf);
         assert_eq!(rt; n, 4);
         assert_eq!(rt; buf, *b"abcd");
+        Ok(())
+    }
+
+    #[test]
+    fn no_file_gives_nothing(rt: HostRuntime) -> Result<(), Fail> {
+        let mut buf = [0u8; 4];
+        assert!(rt; load(&rt, "no/such/file", &mut buf).is_none());
         Ok(())
     }
 }

@@ -12,7 +12,7 @@ use borrow.Author.Tests.{le-ltb}
 use Rattle.records.specs.declared.Record.{Record}
 use Rattle.records.specs.Record.{record_at, record_count}
 use Rattle.shapes.specs.Class.{Class}
-use Rattle.accept.specs.declared.Checked.TheVariants.{Next}
+use Rattle.std.specs.Prelude.{Ok}
 use Rattle.accept.specs.Check.{node, check, most_records}
 use Rattle.accepted.proofs.Each.{each_record}
 use Rattle.accepted.proofs.Sizes.{few_records}
@@ -22,9 +22,8 @@ use Rattle.text.specs.Joins.{joins_right}
 use Rattle.text.proofs.ByKind.{at_kind}
 use Rattle.formed.specs.Formed.{FormedExpr}
 use Rattle.formed.proofs.Kind.{rec}
-use Rattle.joined.specs.declared.Head.{Head}
 use Rattle.signs.specs.Sign.{of_unary, of_binary, joins_with, additive}
-use Rattle.joined.specs.Stack.{State, walk, bare_sign, under_sign, own_of, joins_at, any_joined}
+use Rattle.joined.specs.Stack.{Head, State, walk, bare_sign, under_sign, own_of, joins_at, any_joined}
 use Rattle.joined.proofs.Heads.{head_at}
 use Rattle.joined.proofs.Operands.{Right, of_record}
 use Rattle.joined.proofs.Own.{own_int}
@@ -63,10 +62,10 @@ module _ (rs ns : List ℕ) (byte : (p : ℕ) → get_or rs p 0 < 256) where
   unfolding joins_at
   other_here i k v n a b e7 e8 = at_kind (λ k. Alike i (rec k v n a b)) k 13 (dot_here i v n a b) (λ e13. rw (e7, e8, e13) refl)
 
-  joins_record : (left : ℕ) (c : Class) (i m : ℕ) → node rs ns left c i ≡ Next m → Alike i (record_at rs i)
+  joins_record : (left : ℕ) (c : Class) (i m : ℕ) → node rs ns left c i ≡ Ok m → Alike i (record_at rs i)
   joins_record = of_record rs ns byte Alike unary_here binary_here other_here
 
-  module _ (m : ℕ) (accepted : check rs ns Class.expr ≡ Next m) where
+  module _ (m : ℕ) (accepted : check rs ns Class.expr ≡ Ok m) where
     -- what is found from record i on, n records before the end
     found_from : (n i : ℕ) → i + n ≡ record_count rs → (before rs i).found ≡ somewhere joins_here n rs ns i
     unfolding walk somewhere

@@ -16,8 +16,7 @@ use Rattle.text.proofs.ByKind.{of_kind, by_variant}
 use Rattle.precedence.proofs.Tree.{precedence_at}
 use Rattle.signs.specs.Sign.{of_unary, plus_or_minus}
 use Rattle.signs.proofs.Step.{sign_here, type_first}
-use Rattle.joined.specs.declared.Head.{Head}
-use Rattle.joined.specs.Stack.{bare_sign, sign_of, own_of, head_of, walk}
+use Rattle.joined.specs.Stack.{Head, bare_sign, sign_of, own_of, head_of, walk}
 use Rattle.joined.proofs.Own.{unary_own, own, head}
 
 own_variant : (v : ℕ) → of_unary v ≡ unary_own (unary_op_of v)

@@ -10,7 +10,7 @@ use Rattle.records.specs.declared.Record.{Record}
 use Rattle.records.specs.Record.{record_at}
 use Rattle.shapes.specs.Class.{Class}
 use Rattle.shapes.specs.Shape.{rows, shape_of, classes}
-use Rattle.accept.specs.declared.Checked.TheVariants.{Next}
+use Rattle.std.specs.Prelude.{Ok}
 use Rattle.accept.specs.Check.{each, node, children_of}
 use Rattle.accept.proofs.Accepted.{bind_next, node_next, node_deep}
 use Rattle.text.specs.Reading.{from, expr}
@@ -26,15 +26,15 @@ module _ (rs ns : List ℕ) where
     pub at : ℕ
     pub next : ℕ
     pub left : ℕ
-    pub first : node rs ns left Class.expr (i + 1) ≡ Next at
-    pub second : node rs ns left Class.expr at ≡ Next next
+    pub first : node rs ns left Class.expr (i + 1) ≡ Ok at
+    pub second : node rs ns left Class.expr at ≡ Ok next
     pub there : drop (0 + (expr (from rs ns (i + 1))).size) (from rs ns (i + 1)) ≡ from rs ns at
     pub formed : FormedExpr (expr (from rs ns at)).tree
 
 module _ (rs ns : List ℕ) (byte : (p : ℕ) → get_or rs p 0 < 256) where
   -- the children of a record at i are accepted
   abbrev Children : (left m i k v n a b : ℕ) → Type 0
-  Children left m i k v n a b = each (node rs ns left) (children_of (rec k v n a b)) (i + 1) ≡ Next m
+  Children left m i k v n a b = each (node rs ns left) (children_of (rec k v n a b)) (i + 1) ≡ Ok m
 
   -- a unary operator's operand stands right behind it
   operand_formed : (left m i v n a b : ℕ) → Children left m i 7 v n a b → FormedExpr (expr (from rs ns (i + 1))).tree
@@ -63,7 +63,7 @@ module _ (rs ns : List ℕ) (byte : (p : ℕ) → get_or rs p 0 < 256) where
   -- what holds of unary and binary operators, and of all else, holds of each record of an accepted tree
   module _ (Q : ℕ → Record → Type 0) (unary : (i v n a b : ℕ) → FormedExpr (expr (from rs ns (i + 1))).tree → Q i (rec 7 v n a b))
       (binary : (i v n a b : ℕ) → Right rs ns i → Q i (rec 8 v n a b)) (other : (i k v n a b : ℕ) → eqb k 7 ≡ false → eqb k 8 ≡ false → Q i (rec k v n a b)) where
-    pub of_record : (left : ℕ) (c : Class) (i m : ℕ) → node rs ns left c i ≡ Next m → Q i (record_at rs i)
+    pub of_record : (left : ℕ) (c : Class) (i m : ℕ) → node rs ns left c i ≡ Ok m → Q i (record_at rs i)
     of_record zero c i m e = node_deep rs ns (Q i (record_at rs i)) c i m e
     of_record (suc left) c i m e =
         let r = record_at rs i in

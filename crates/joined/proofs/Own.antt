@@ -4,16 +4,22 @@ use mathlib.Core.Path.{◌≡◌, refl, sym, ◌∙◌, ap}
 use mathlib.Core.Bool.{Bool, true, false, ◌&&◌, cond, not}
 use Prim.Native.Nat.{ℕ}
 use Prim.Native.Char.{code}
+use Rattle.std.specs.Prelude.{Some}
+use native.Mathlib.Omega.{arith}
 use lib.Dec.{eqb, leb}
 use Rattle.words.specs.Form.{same, one_of}
 use Rattle.words.specs.Symbol.{symbol_text}
 use Rattle.text.specs.Tree.{UnaryOp, Expr}
 use Rattle.text.specs.Operator.{precedence, unary_precedence, unary_symbol, doubled, doubles, bare_operand}
 use Rattle.text.specs.Joins.{sign, sign_if, is_int}
+use Rattle.signs.specs.Sign.{byte_of}
+use Rattle.signs.specs.declared.Sign.{Sign}
+use Rattle.signs.specs.declared.Sign.TheVariants.{Plus, Minus}
 use Rattle.signs.proofs.Step.{up_to}
 use Rattle.formed.proofs.Signs.{plus, minus}
-use Rattle.joined.specs.declared.Head.{Head}
-use Rattle.joined.specs.Stack.{bare_sign, under_sign}
+use Rattle.joined.specs.declared.ByItself.{ByItself}
+use Rattle.joined.specs.declared.ByItself.TheVariants.{Operator, IntConst, Other}
+use Rattle.joined.specs.Stack.{Head, own_byte, bare_sign, under_sign}
 
 unfoldable pub unary_own : UnaryOp → ℕ
 unary_own UnaryOp.Inc = 0
@@ -120,3 +126,20 @@ under_plus = under_is UnaryOp.Add plus (by_op (λ o. doubled UnaryOp.Add o ≡ e
 pub under_minus : (e : Expr) → under_sign (head e) minus ≡ sign_if (bare_operand UnaryOp.Minus e) (sign e)
 unfolding doubled one_of same symbol_text unary_symbol unary_own
 under_minus = under_is UnaryOp.Minus minus (by_op (λ o. doubled UnaryOp.Minus o ≡ eqb (unary_own o) minus) refl refl refl refl refl refl) refl refl
+
+-- the byte of a sign is that operator's alone, and a point an IntConst's
+pub is_operator : (o : ByItself) (s : Sign) → own_byte o ≡ byte_of (Some s) → o ≡ Operator s
+is_operator (Operator Plus) Plus e = refl
+is_operator (Operator Plus) Minus e = absurd (omega arith)
+is_operator (Operator Minus) Plus e = absurd (omega arith)
+is_operator (Operator Minus) Minus e = refl
+is_operator IntConst Plus e = absurd (omega arith)
+is_operator IntConst Minus e = absurd (omega arith)
+is_operator Other Plus e = absurd (omega arith)
+is_operator Other Minus e = absurd (omega arith)
+
+pub is_point : (o : ByItself) → own_byte o ≡ code "." → o ≡ IntConst
+is_point (Operator Plus) e = absurd (omega arith)
+is_point (Operator Minus) e = absurd (omega arith)
+is_point IntConst e = refl
+is_point Other e = absurd (omega arith)

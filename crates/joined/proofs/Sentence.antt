@@ -13,7 +13,7 @@ use Rattle.settings.specs.State.{fresh}
 use Rattle.records.specs.declared.Record.{Record}
 use Rattle.records.specs.Record.{record_at, record_count}
 use Rattle.shapes.specs.Class.{Class}
-use Rattle.accept.specs.declared.Checked.TheVariants.{Next}
+use Rattle.std.specs.Prelude.{Ok}
 use Rattle.accept.specs.Check.{node, check}
 use Rattle.accepted.proofs.Each.{each_record}
 use Rattle.text.specs.Tree.{Expr}
@@ -54,10 +54,10 @@ module _ (rs ns : List ℕ) (byte : (p : ℕ) → get_or rs p 0 < 256) where
       ∙ ap (λ (t : Bool). t || false) (worded (binary_symbol (binary_op_of v)) (bare_right (binary_op_of v) x) x r.formed)
       ∙ ap (λ (L : List Item). same_sign (binary_symbol (binary_op_of v)) (bare_right (binary_op_of v) (expr L).tree) (expr L).tree || false) (sym r.there)
 
-  record_here : (left : ℕ) (c : Class) (i m : ℕ) → node rs ns left c i ≡ Next m → Worded i (record_at rs i)
+  record_here : (left : ℕ) (c : Class) (i m : ℕ) → node rs ns left c i ≡ Ok m → Worded i (record_at rs i)
   record_here = of_record rs ns byte Worded unary_here binary_here (λ i k v n a b e7 e8. rw (e7, e8) refl)
 
-  module _ (m : ℕ) (accepted : check rs ns Class.expr ≡ Next m) where
+  module _ (m : ℕ) (accepted : check rs ns Class.expr ≡ Ok m) where
     from_here : (n i : ℕ) → i + n ≡ record_count rs → somewhere joins_here n rs ns i ≡ somewhere in_words n rs ns i
     unfolding somewhere
     from_here zero i e = refl

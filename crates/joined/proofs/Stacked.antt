@@ -9,7 +9,7 @@ use borrow.Author.Tests.{le-ltb}
 use Rattle.records.specs.Record.{record_at, record_count}
 use Rattle.shapes.specs.Class.{Class}
 use Rattle.shapes.specs.Shape.{last_variant}
-use Rattle.accept.specs.declared.Checked.TheVariants.{Next}
+use Rattle.std.specs.Prelude.{Ok}
 use Rattle.accept.specs.Check.{each, node, children_of}
 use Rattle.accept.proofs.Accepted.{next_is, bind_next, node_next, node_deep, no_fault_variant}
 use Rattle.signs.specs.Sign.{additive}
@@ -31,14 +31,14 @@ module _ (rs : List ℕ) where
 
   module _ (ns : List ℕ) where
     -- trees one behind the other are taken off, if each of them is one byte
-    each_stack : (left : ℕ) → ((c : Class) (i m : ℕ) → node rs ns left c i ≡ Next m → (before i).stack ≡ byte_of i ∷ (before m).stack)
-        → (cs : List Class) (i m : ℕ) → each (node rs ns left) cs i ≡ Next m → drop (length cs) (before i).stack ≡ (before m).stack
+    each_stack : (left : ℕ) → ((c : Class) (i m : ℕ) → node rs ns left c i ≡ Ok m → (before i).stack ≡ byte_of i ∷ (before m).stack)
+        → (cs : List Class) (i m : ℕ) → each (node rs ns left) cs i ≡ Ok m → drop (length cs) (before i).stack ≡ (before m).stack
     each_stack left h [] i m e = ap (λ (k : ℕ). (before k).stack) (next_is i m e)
     each_stack left h (c ∷ cs) i m e =
         let b = bind_next (node rs ns left c i) (each (node rs ns left) cs) m e in
         ap (drop (suc (length cs))) (h c i b.0 b.1) ∙ each_stack left h cs b.0 m b.2
 
-    pub node_stack : (left : ℕ) (c : Class) (i m : ℕ) → node rs ns left c i ≡ Next m → (before i).stack ≡ byte_of i ∷ (before m).stack
+    pub node_stack : (left : ℕ) (c : Class) (i m : ℕ) → node rs ns left c i ≡ Ok m → (before i).stack ≡ byte_of i ∷ (before m).stack
     unfolding child_count
     node_stack zero c i m e = node_deep rs ns ((before i).stack ≡ byte_of i ∷ (before m).stack) c i m e
     node_stack (suc left) c i m e =

@@ -1,6 +1,6 @@
 -- What the walk of the joined question does with the records, from the last to the first. That its answer is the definition's (text, specs/Joined) for
 -- accepted records is shown in proofs/Answer. Assumes nothing.
-use Rattle.std.specs.Prelude.{Bool, false, ◌||◌, cond, List, [], ◌∷◌, ℕ, zero, suc, ◌+◌, eqb, ltb, length, get_or, drop}
+use Rattle.std.specs.Prelude.{Some, Bool, false, ◌||◌, cond, List, [], ◌∷◌, ℕ, zero, suc, ◌+◌, eqb, ltb, length, get_or, drop}
 use Prim.Native.Char.{code}
 use Rattle.records.specs.declared.Record.{Record}
 use Rattle.records.specs.Record.{record_count, record_at}
@@ -8,8 +8,25 @@ use Rattle.shapes.specs.Shape.{last_variant}
 use Rattle.accept.specs.Check.{children_of, most_records}
 use Rattle.text.specs.Operator.{unary_precedence}
 use Rattle.precedence.specs.Precedence.{precedence_of}
-use Rattle.signs.specs.Sign.{sign_before, of_unary, of_binary, joins_with, additive}
-use Rattle.joined.specs.declared.Head.{Head}
+use Rattle.signs.specs.Sign.{byte_of, sign_before, of_unary, of_binary, joins_with, additive}
+use Rattle.joined.specs.declared.Head as Code
+use Rattle.joined.specs.declared.ByItself.{ByItself}
+use Rattle.joined.specs.declared.ByItself.TheVariants.{Operator, IntConst, Other}
+
+-- how the text of an expression begins, how strongly it binds, and what it is by itself, in numbers: a sign is its byte, an IntConst a point, and all else 0
+pub record Head : Type 0 where
+  pub sign : ℕ
+  pub precedence : ℕ
+  pub own : ℕ
+
+abbrev pub own_byte : ByItself → ℕ
+own_byte (Operator s) = byte_of (Some s)
+own_byte IntConst = code "."
+own_byte Other = 0
+
+-- the code's, in these numbers
+abbrev pub seen : Code.Head → Head
+seen h = record { sign = byte_of h.sign; precedence = h.precedence; own = own_byte h.own }
 
 -- an operand in parentheses begins with none
 unfoldable pub bare_sign : Head → (below : ℕ) → ℕ

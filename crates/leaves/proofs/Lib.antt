@@ -1,4 +1,5 @@
 pub mod Frame
+pub mod Unlike
 pub mod Shown
 pub mod Rows
 pub mod Operand

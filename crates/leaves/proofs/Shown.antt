@@ -6,7 +6,8 @@ use Prim.Native.Nat.{ℕ, suc, ◌+◌, ◌-◌, ◌<◌, ◌≤◌}
 use native.Mathlib.Nat.{zero-add, add-zero}
 use native.Mathlib.Omega.{arith}
 use lib.ListN.{length}
-use borrow.Author.Tests.{lt-ltb}
+use lib.Dec.{eqb}
+use borrow.Author.Tests.{lt-ltb, ne_eqb}
 use Rattle.records.specs.declared.Record.{Record}
 use Rattle.records.specs.Record.{record_at, record_count, no_record}
 use Rattle.records.proofs.Laws.{kind_stands}
@@ -154,8 +155,10 @@ module _ {A B : Type 0} (of : Listed A B) (s : Settings) (records names : List �
       ap (λ (k : ℕ). (left_at k p).tree) e ∙ several_at records names (n - 1) q end more p.next
 
   module _ {n₀ : ℕ} {f₀ : Bool} {room₀ : List ℕ} {p₀ : Pen} where
-    pub start : Loop n₀ f₀ room₀ p₀ n₀ f₀ room₀ p₀
-    start = record { text = refl; next = refl; ahead = omega arith }
+    pub start : Loop n₀ f₀ room₀ p₀ (n₀ - 0) f₀ room₀ p₀
+    start =
+        let e : n₀ ≡ n₀ - 0 = omega arith in
+        subst (λ (n : ℕ). Loop n₀ f₀ room₀ p₀ n f₀ room₀ p₀) e (record { text = refl; next = refl; ahead = omega arith })
 
     pub turn : {n : ℕ} {f : Bool} {room room₁ : List ℕ} {p p₁ : Pen} → Loop n₀ f₀ room₀ p₀ n f room p → 0 < n
         → Shows (of.item f) q s records names room p room₁ p₁ → Loop n₀ f₀ room₀ p₀ (n - 1) false room₁ p₁
@@ -167,6 +170,14 @@ module _ {A B : Type 0} (of : Listed A B) (s : Settings) (records names : List �
           next = omega (arith, a.next, l.next, several_size records names q end more n p.next p₁.next h a.next);
           ahead = omega (arith, a.next, l.ahead);
         }
+
+    -- the same for a loop over k from 0 on: the item k is the first where k is 0
+    pub step : {n k : ℕ} {room room₁ : List ℕ} {p p₁ : Pen} → Loop n₀ f₀ room₀ p₀ (n - k) (eqb k 0) room p → k < n
+        → Shows (of.item (eqb k 0)) q s records names room p room₁ p₁ → Loop n₀ f₀ room₀ p₀ (n - (k + 1)) (eqb (k + 1) 0) room₁ p₁
+    step {n = n} {k = k} {room₁ = room₁} {p₁ = p₁} l h a =
+        let e : n - k - 1 ≡ n - (k + 1) = omega arith in
+        let f : false ≡ eqb (k + 1) 0 = sym (ne_eqb (k + 1) 0 (omega arith)) in
+        subst (λ (m : ℕ). Loop n₀ f₀ room₀ p₀ m (eqb (k + 1) 0) room₁ p₁) e (subst (λ (g : Bool). Loop n₀ f₀ room₀ p₀ (n - k - 1) g room₁ p₁) f (turn l (omega arith) a))
 
     pub done : {n : ℕ} {f : Bool} {room : List ℕ} {p : Pen} → Loop n₀ f₀ room₀ p₀ n f room p → n ≤ 0 → shown_at n₀ f₀ room₀ p₀ room p
     unfolding several run
@@ -186,3 +197,9 @@ module _ {A B : Type 0} (of : Listed A B) (s : Settings) (records names : List �
       next = l.next;
       ahead = l.ahead;
     }
+
+    pub step_alike : ((f : Bool) (xs : B) → list f xs ≡ list true xs) → {n k : ℕ} {room room₁ : List ℕ} {p p₁ : Pen} → Loop n₀ f₀ room₀ p₀ (n - k) true room p → k < n
+        → Shows (of.item true) q s records names room p room₁ p₁ → Loop n₀ f₀ room₀ p₀ (n - (k + 1)) true room₁ p₁
+    step_alike e {n = n} {k = k} {room₁ = room₁} {p₁ = p₁} l h a =
+        let f : n - k - 1 ≡ n - (k + 1) = omega arith in
+        subst (λ (m : ℕ). Loop n₀ f₀ room₀ p₀ m true room₁ p₁) f (alike e (turn l (omega arith) a))

@@ -23,18 +23,16 @@ pub fn consume_newline(state: &mut FormattingState)
 }
 
 // Both of a state by value, which is lent for the call: what takes no reference to a struct can call these.
-pub fn after_new_line(state: FormattingState, required: bool) -> FormattingState
+pub fn after_new_line(mut state: FormattingState, required: bool) -> FormattingState
     ensures { result ≡ asked required state }
 {
-    let mut lent = state;
-    new_line(&mut lent, required);
-    lent
+    new_line(&mut state, required);
+    state
 }
 
-pub fn after_consume_newline(state: FormattingState) -> FormattingState
+pub fn after_consume_newline(mut state: FormattingState) -> FormattingState
     ensures { result ≡ pend false state }
 {
-    let mut lent = state;
-    consume_newline(&mut lent);
-    lent
+    consume_newline(&mut state);
+    state
 }

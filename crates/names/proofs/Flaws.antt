@@ -8,6 +8,7 @@ use native.Mathlib.Omega.{arith}
 use lib.ListN.{length, get_or, take, drop, length-drop, take-append-drop, drop_of_length-le}
 use lib.Seq.{drop-drop, get_or-drop, get_or-take, length-take-le, take_all}
 use lib.Dec.{eqb}
+use Rattle.std.specs.List.{list_all}
 use borrow.Author.Tests.{lt-ltb, le-ltb, ne_eqb}
 use Rattle.words.specs.Letter.{name_byte}
 use Rattle.word_table.specs.Table.{flaw}
@@ -32,6 +33,12 @@ none_so_far m x = by (name_byte x)
     by : (b : Bool) → eqb (m + cond b 0 1) 0 ≡ eqb m 0 && b
     by true = let e : m + 0 ≡ m = omega arith in ap (λ (n : ℕ). eqb n 0) e ∙ sym (and-true (eqb m 0))
     by false = ne_eqb (m + 1) 0 (λ e. omega arith) ∙ sym (and-false (eqb m 0))
+
+-- `all` is the library's test of a list
+pub all_listed : (f : ℕ → Bool) (s : List ℕ) → all f s ≡ list_all f s
+unfolding all
+all_listed f [] = refl
+all_listed f (x ∷ s) = ap (λ (b : Bool). f x && b) (all_listed f s)
 
 pub no_flaw : (x : ℕ) → eqb (flaw x) 0 ≡ name_byte x
 no_flaw x = let e : 0 + flaw x ≡ flaw x = omega arith in ap (λ (n : ℕ). eqb n 0) (sym e) ∙ none_so_far 0 x

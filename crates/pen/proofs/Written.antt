@@ -24,7 +24,6 @@ use Rattle.pen.specs.Sheet.{Sheet, last_place, last_level, leave, lay}
 use Rattle.pen.specs.Run.{state_of, turned, space_where, line, whiten, step, run}
 use Rattle.pen.specs.Promise.{sheet, Ran}
 use Rattle.pen.specs.Free.{climb, climbs, Free}
-use Rattle.pen.proofs.Lay.{at_level_lem}
 
 -- no command changes the room's length
 
@@ -135,7 +134,7 @@ step_pen s flush_space x h k =
     (λ e. lay_pen (bytes " ") x (subst (λ (b : Bool). x.pen.at + length (cond b (bytes " ") []) ≤ last_place) e h))
 step_pen s consume_newline x h k = stay _ x.pen
 step_pen s indent x h k =
-    at_level_lem x.pen (min ((state_of x).indentation_level + 1) last_level) ((state_of x).indentation_level + 1) (omega arith)
+    let e : min ((state_of x).indentation_level + 1) last_level ≡ (state_of x).indentation_level + 1 = omega arith in ap (λ (n : ℕ). leave (at_level n (state_of x)) x.pen) e
     ∙ stay (at_level ((state_of x).indentation_level + 1) (state_of x)) x.pen
 step_pen s dedent x h k = stay _ x.pen
 step_pen s enter_function_definition_statement x h k = stay _ x.pen

@@ -1,6 +1,11 @@
 // 000's `impl FormattingState`: its methods in its order, under its names, each promised to run its list of commands of the definition.
 //
+// Some differ in a setting and a character alone. Each keeps 000's name and place, as a rule of the project has it, and a helper that they shared would be called as
+// their two calls are.
+//
 // Not here: move_to_empty_line and exit_external_declaration, which only directives need; they come with request #101, with the two fields that they use.
+#![tactic(auto, unfolding(crate::specs::Sheet::lay, crate::specs::Run::run, crate::specs::Run::step, crate::specs::Run::space_where, crate::specs::Run::line, crate::specs::Run::whiten, text::specs::Asked::flag, text::specs::Asked::gap, text::specs::Token::spell, text::specs::Pen::indent_of, words::specs::Symbol::symbol_text, words::specs::Word::word_text))]
+
 ghost use Rattle.std.specs.Prelude.{◌≡◌, true, false, [], ◌∷◌};
 ghost use Rattle.settings.specs.declared.Settings.{Settings};
 ghost use Rattle.text.specs.Token.{Token};
@@ -14,16 +19,13 @@ ghost use Rattle.pen.specs.Promise.{Ran, Turned};
 use crate::{Pen, tokens};
 use settings::{IndentStyle, Settings};
 
-const LAST_LEVEL: u16 = 65535;
-
 impl Pen {
     // 000 IndentStyle::write at the level.
     fn write_indent(self, room: &mut [u8], s: Settings) -> Pen
         ensures { Ran s (write_indent ∷ []) room.old self room.new result }
     {
-        let style = s.indent_style;
         let n = tokens::times(s.count, self.state.indentation_level);
-        match style {
+        match s.indent_style {
             IndentStyle::None => self,
             IndentStyle::Tabs => self.write_run(room, b'\t', n),
             IndentStyle::Spaces => self.write_run(room, b' ', n),
@@ -37,23 +39,20 @@ impl Pen {
     }
 
     // A newline only becomes pending.
-    pub fn new_line(self, required: bool) -> Pen
+    pub fn new_line(mut self, required: bool) -> Pen
         ensures { result ≡ leave (asked required self.state) self }
     {
         if required {
-            let mut pen = self;
-            pen.state.new_line_pending = true;
-            return pen;
+            self.state.new_line_pending = true;
         }
         self
     }
 
-    pub fn consume_newline(self) -> Pen
+    pub fn consume_newline(mut self) -> Pen
         ensures { result ≡ leave (pend false self.state) self }
     {
-        let mut pen = self;
-        pen.state.new_line_pending = false;
-        pen
+        self.state.new_line_pending = false;
+        self
     }
 
     // Here, and not when it is asked for, is the newline written.
@@ -61,9 +60,10 @@ impl Pen {
         ensures { Ran s (flush_line ∷ []) room.old self room.new result }
     {
         if self.state.new_line_pending {
-            return self.write_line(room, s).consume_newline();
+            self.write_line(room, s).consume_newline()
+        } else {
+            self
         }
-        self
     }
 
     // It asks the settings for nothing.
@@ -71,9 +71,10 @@ impl Pen {
         ensures { (s : Settings) → Ran s (flush_space ∷ []) room.old self room.new result }
     {
         if self.state.new_line_pending {
-            return self.write_char(room, b' ').consume_newline();
+            self.write_char(room, b' ').consume_newline()
+        } else {
+            self
         }
-        self
     }
 
     pub fn enter_compound_statement_block(self, room: &mut [u8], s: Settings) -> Pen
@@ -113,20 +114,18 @@ impl Pen {
         pen.new_line(s.newline_after_close_block)
     }
 
-    pub fn enter_function_definition_statement(self) -> Pen
+    pub fn enter_function_definition_statement(mut self) -> Pen
         ensures { result ≡ leave (at_body true self.state) self }
     {
-        let mut pen = self;
-        pen.state.in_function_definition_statement = true;
-        pen
+        self.state.in_function_definition_statement = true;
+        self
     }
 
-    pub fn consume_function_definition_statement(self) -> Pen
+    pub fn consume_function_definition_statement(mut self) -> Pen
         ensures { result ≡ leave (at_body false self.state) self }
     {
-        let mut pen = self;
-        pen.state.in_function_definition_statement = false;
-        pen
+        self.state.in_function_definition_statement = false;
+        self
     }
 
     pub fn enter_collapsed_compound_statement(self, s: Settings) -> Pen
@@ -158,8 +157,8 @@ impl Pen {
     pub fn enter_case_label(self, room: &mut [u8], s: Settings) -> Pen
         ensures { Ran s enter_case_label room.old self room.new result }
     {
-        let white = s.case_label_terminator;
-        self.write_char(room, b':').write_whitespace(room, white)
+        self.write_char(room, b':')
+            .write_whitespace(room, s.case_label_terminator)
     }
 
     pub fn write_else(self, room: &mut [u8], s: Settings) -> Pen
@@ -173,8 +172,8 @@ impl Pen {
     pub fn write_struct_field_separator(self, room: &mut [u8], s: Settings) -> Pen
         ensures { Ran s write_struct_field_separator room.old self room.new result }
     {
-        let white = s.struct_field_separator;
-        self.write_char(room, b';').write_whitespace(room, white)
+        self.write_char(room, b';')
+            .write_whitespace(room, s.struct_field_separator)
     }
 
     pub fn write_list_separator(self, room: &mut [u8], s: Settings) -> Pen
@@ -194,15 +193,15 @@ impl Pen {
     pub fn write_struct_declaration_terminator(self, room: &mut [u8], s: Settings) -> Pen
         ensures { Ran s write_struct_declaration_terminator room.old self room.new result }
     {
-        let white = s.struct_declaration_terminator;
-        self.write_char(room, b';').write_whitespace(room, white)
+        self.write_char(room, b';')
+            .write_whitespace(room, s.struct_declaration_terminator)
     }
 
     pub fn write_declaration_terminator(self, room: &mut [u8], s: Settings) -> Pen
         ensures { Ran s write_declaration_terminator room.old self room.new result }
     {
-        let white = s.declaration_terminator;
-        self.write_char(room, b';').write_whitespace(room, white)
+        self.write_char(room, b';')
+            .write_whitespace(room, s.declaration_terminator)
     }
 
     // Any text may be the operator; it counts as the token that is spelled so.
@@ -218,15 +217,14 @@ impl Pen {
     pub fn write_statement_terminator(self, room: &mut [u8], s: Settings) -> Pen
         ensures { Ran s write_statement_terminator room.old self room.new result }
     {
-        let white = s.statement_terminator;
-        self.write_char(room, b';').write_whitespace(room, white)
+        self.write_char(room, b';')
+            .write_whitespace(room, s.statement_terminator)
     }
 
     pub fn write_function_definition_terminator(self, room: &mut [u8], s: Settings) -> Pen
         ensures { Ran s write_function_definition_terminator room.old self room.new result }
     {
-        let white = s.function_definition_terminator;
-        self.write_whitespace(room, white)
+        self.write_whitespace(room, s.function_definition_terminator)
     }
 
     pub fn write_statement_opening_parenthesis(self, room: &mut [u8], s: Settings) -> Pen
@@ -244,29 +242,17 @@ impl Pen {
     }
 
     // 000 counts the level in place. It stops at the last of 16 bits, which no tree of ours reaches.
-    fn indent(self) -> Pen
+    fn indent(mut self) -> Pen
         ensures { result ≡ leave (deeper self.state) self }
     {
-        let level = self.state.indentation_level;
-        if level < LAST_LEVEL {
-            let deeper = level + 1;
-            let mut pen = self;
-            pen.state.indentation_level = deeper;
-            return pen;
-        }
+        self.state.indentation_level = self.state.indentation_level.saturating_add(1);
         self
     }
 
-    fn dedent(self) -> Pen
+    fn dedent(mut self) -> Pen
         ensures { result ≡ leave (shallower self.state) self }
     {
-        let level = self.state.indentation_level;
-        if 0 < level {
-            let shallower = level - 1;
-            let mut pen = self;
-            pen.state.indentation_level = shallower;
-            return pen;
-        }
+        self.state.indentation_level = self.state.indentation_level.saturating_sub(1);
         self
     }
 }

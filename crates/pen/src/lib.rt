@@ -8,19 +8,20 @@ ghost use Rattle.std.specs.Prelude.{◌≡◌, true, cond, [], ◌∷◌, ◌++�
 ghost use Rattle.words.specs.Bytes.{bytes};
 ghost use Rattle.word_table.specs.Table as Table;
 ghost use Rattle.decimal.specs.Decimal.{decimal};
-ghost use Rattle.records.specs.Record.{part};
+ghost use Rattle.records.specs.Record.{text_of};
 ghost use Rattle.settings.specs.declared.Settings.{Settings};
 ghost use Rattle.text.specs.Token.{Token, spell};
 ghost use Rattle.text.specs.Text.{show_int};
 ghost use Rattle.pen.specs.Sheet.{forward};
 ghost use Rattle.pen.specs.Promise.{Wrote, Whitened, Ran};
 
+use records::{Record, Tree};
 use settings::{FormattingState, Settings, Whitespace};
-use word_table::rows::Words;
 
 // The record to be read next, where the next byte goes, and the state of the line layout. (The order counts: a pen goes into and out of every printer, through
-// memory, and with the place before the record it takes 24 bytes, here 16; docs/SPEED.md.)
-#[derive(Clone, Copy)]
+// memory, and with the place before the record it takes 24 bytes, here 16; docs/SPEED.md. So the room and the settings, which go along with it, stay parameters, as
+// 000 lends its writer.)
+#[derive(Clone, Copy, Debug, PartialEq, Eq)]
 pub struct Pen {
     pub next: usize,
     pub at: u32,
@@ -28,13 +29,15 @@ pub struct Pen {
 }
 
 // The leaf writers: a token at a time. Each writes all of it if it fits, else leaves the room as it is, and moves on in any case.
+#[tactic(auto, using(crate::proofs::Lay::leaf, crate::proofs::Chain::unspaced), unfolding(crate::specs::Run::run, crate::specs::Run::step, crate::specs::Run::whiten, text::specs::Token::spell, text::specs::Token::pointed, words::specs::Symbol::symbol_text))]
 impl Pen {
     fn forward(self, n: usize) -> Pen
         ensures { result ≡ forward n self }
     {
-        let mut moved = self;
-        moved.at = tokens::advanced(self.at, n);
-        moved
+        Pen {
+            at: tokens::advanced(self.at, n),
+            ..self
+        }
     }
 
     pub fn write_char(self, room: &mut [u8], byte: u8) -> Pen
@@ -87,47 +90,51 @@ impl Pen {
     }
 
     // An i32 from its 32 bits, which is one token or, with its sign, two. It asks the settings for nothing.
+    #[inline(always)]
     pub fn write_signed(self, room: &mut [u8], bits: u32) -> Pen
         ensures { (s : Settings) → Ran s (show_int bits) room.old self room.new result }
     {
         let n = decimal::magnitude_of(bits);
         if decimal::is_negative(bits) {
-            return self.write_char(room, b'-').write_int(room, n);
+            self.write_char(room, b'-').write_int(room, n)
+        } else {
+            self.write_int(room, n)
         }
-        self.write_int(room, n)
     }
 
     pub fn write_float(self, room: &mut [u8], text: &[u8]) -> Pen
         ensures { Wrote (spell (Token.float text.now)) room.old self room.new result }
     {
         if tokens::has_point(text) {
-            return self.write_str(room, text);
+            self.write_str(room, text)
+        } else {
+            self.write_two(room, text, b".")
         }
-        self.write_two(room, text, b".")
     }
 
     pub fn write_double(self, room: &mut [u8], text: &[u8]) -> Pen
         ensures { Wrote (spell (Token.double text.now)) room.old self room.new result }
     {
         if tokens::has_point(text) {
-            return self.write_two(room, text, b"lf");
+            self.write_two(room, text, b"lf")
+        } else {
+            self.write_two(room, text, b".lf")
         }
-        self.write_two(room, text, b".lf")
     }
 
-    // T of a record, as a part of the names.
-    pub fn write_name(self, room: &mut [u8], names: &[u8], a: u32, b: u32) -> Pen
-        ensures { Wrote (part names.now a b) room.old self room.new result }
+    // T of a record, as a part of the tree's names.
+    #[inline(always)]
+    pub fn write_name(self, room: &mut [u8], tree: &Tree, r: Record) -> Pen
+        ensures { Wrote (text_of tree.now.names.now r) room.old self room.new result }
     {
-        self.write_str(room, records::part_of(names, a, b))
+        self.write_str(room, tree.text_of(r))
     }
 
-    // A word or an operator, by its row of the lent table (word_table::rows has the rows by name).
-    pub fn write_word(self, room: &mut [u8], table: &Words, row: usize) -> Pen
-        requires { table.now ≡ Table.table }
+    // A word or an operator, by its row of the word table (word_table::rows has the rows by name).
+    pub fn write_word(self, room: &mut [u8], row: usize) -> Pen
         ensures { Wrote (Table.text_at row) room.old self room.new result }
     {
-        self.write_str(room, word_table::row(table, row))
+        self.write_str(room, word_table::row(row))
     }
 
     // A space, where it is asked for.
@@ -135,9 +142,10 @@ impl Pen {
         ensures { Wrote (cond on (bytes " ") []) room.old self room.new result }
     {
         if on {
-            return self.write_char(room, b' ');
+            self.write_char(room, b' ')
+        } else {
+            self
         }
-        self
     }
 
     // 000 Whitespace::write: a newline only becomes pending.

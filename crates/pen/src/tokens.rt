@@ -5,17 +5,11 @@ ghost use Rattle.decimal.specs.Decimal.{decimal};
 ghost use Rattle.text.specs.Token.{has, point};
 ghost use Rattle.pen.specs.Sheet.{last_place};
 
-const LAST_PLACE: u32 = 4294967295;
-
 // n bytes on. The place stops at the last of 32 bits, which no text of ours reaches.
 pub fn advanced(at: u32, n: usize) -> u32
     ensures { result ≡ min (at + n) last_place }
 {
-    let left = LAST_PLACE - at;
-    if n <= left as usize {
-        return at + (n as u32);
-    }
-    LAST_PLACE
+    at.saturating_add(u32::try_from(n).unwrap_or(u32::MAX))
 }
 
 // The digits of n and what stands behind them, if both fit.
@@ -34,19 +28,12 @@ pub fn lay_number(room: &mut [u8], at: u32, n: u64, back: &[u8])
 pub fn has_point(text: &[u8]) -> bool
     ensures { result ≡ has point text.now }
 {
-    let mut i = 0;
-    while i < text.len() {
-        if text[i] == b'.' {
-            return true;
-        }
-        i += 1;
-    }
-    false
+    text.contains(&b'.')
 }
 
 // The characters of an indent.
 pub fn times(count: u8, levels: u16) -> usize
     ensures { result ≡ count * levels }
 {
-    (count as usize) * (levels as usize)
+    usize::from(count) * usize::from(levels)
 }

@@ -2,17 +2,80 @@
 // the refusal's number and place. Each file goes into an array that is one byte above its limit, so that a file above it is seen and refused.
 #![tactic(auto)]
 
-ghost use Rattle.std.specs.Prelude.{◌≡◌, [], ◌∷◌, ◌++◌, ◌+◌, ◌≤◌, length, take};
-ghost use Rattle.input.specs.Counts.{IsPrefixLen};
+ghost use Rattle.std.specs.Prelude.{◌≡◌, [], ◌∷◌, ◌++◌, ◌+◌, ◌≤◌, length};
+ghost use Rattle.accept.specs.Refusal.{number};
 ghost use Rattle.decimal.specs.Decimal.{decimal};
 ghost use Rattle.settings.specs.Settings.{OPEN};
 ghost use Rattle.text.specs.Whole.{unit_text};
 ghost use Rattle.glsl.specs.Printed.{unit_outcome};
-ghost use Rattle.print.specs.Told.{refused, told, Added};
+ghost use Rattle.print.specs.Told.{refused, told};
 
+use accept::Refused;
 use settings::Settings;
-use std::rt::Files;
-use std::{fs, io};
+use std::io;
+
+// A line that is written part by part. (No `write!`: its contract speaks of what was written where it answers Ok, and of no writer that it does.)
+#[derive(Clone, Copy)]
+struct Line {
+    bytes: [u8; 64],
+    length: usize,
+    ghost within: { length ≤ 64 },
+}
+
+impl Line {
+    ghost use Rattle.print.specs.Line.{written};
+
+    fn empty() -> Line
+        ensures text { written result ≡ [] }
+        ensures short { result.length ≡ 0 }
+    {
+        Line {
+            bytes: [0; 64],
+            length: 0,
+        }
+    }
+
+    // Bytes behind what is written.
+    fn add(&mut self, bytes: &[u8])
+        requires { self.old.length + length bytes.now ≤ 64 }
+        ensures text { written self.new ≡ written self.old ++ bytes.now }
+        ensures longer { self.new.length ≡ self.old.length + length bytes.now }
+    {
+        room::copy(&mut self.bytes, self.length, bytes);
+        self.length += bytes.len();
+    }
+
+    // The digits of a number.
+    fn add_number(&mut self, n: u64)
+        requires { self.old.length + 20 ≤ 64 }
+        ensures text { written self.new ≡ written self.old ++ decimal n }
+        ensures longer { self.new.length ≤ self.old.length + 20 }
+    {
+        decimal::put_digits(&mut self.bytes, self.length, n);
+        self.length += decimal::width(n);
+    }
+
+    // What is written.
+    fn written(&self) -> &[u8]
+        ensures { result.now ≡ written self.now }
+    {
+        &self.bytes[..self.length]
+    }
+
+    // A refusal's line.
+    #[tactic(auto, unfolding(crate::specs::Told::refused))]
+    fn of(why: Refused) -> Line
+        ensures { written result ≡ refused (number why.refusal) why.place }
+    {
+        let mut line = Line::empty();
+        line.add(b"refused ");
+        line.add_number(u64::from(why.refusal));
+        line.add(b" at ");
+        line.add_number(why.place as u64);
+        line.add(b"\n");
+        line
+    }
+}
 
 // The record of OPEN, its byte 21 told too.
 fn open_record() -> [u8; 22]
@@ -22,91 +85,36 @@ fn open_record() -> [u8; 22]
     open.to_bytes()
 }
 
-// Reads a file, at most the buffer, and answers how many bytes it has; where it can't be opened, so many as stand there already.
-fn load(files: &impl Files, path: &str, buf: &mut [u8], standing: usize) -> usize
-    requires { standing ≤ length buf.old }
-    ensures { IsPrefixLen result buf.new }
-{
-    match fs::open(files, path) {
-        Ok(mut file) => input::read_full(&mut file, buf),
-        Err(_) => standing,
-    }
-}
-
-// Bytes at a place; answers where they end.
-fn add(room: &mut [u8], at: usize, bytes: &[u8]) -> usize
-    requires { at + length bytes.now ≤ length room.old }
-    ensures { Added bytes.now at room.old room.new result }
-{
-    room::copy(room, at, bytes);
-    at + bytes.len()
-}
-
-// The digits of a number at a place; answers where they end.
-fn add_number(room: &mut [u8], at: usize, n: u64) -> usize
-    requires { at + 20 ≤ length room.old }
-    ensures { Added (decimal n) at room.old room.new result × (result ≤ at + 20) }
-{
-    decimal::put_digits(room, at, n);
-    at + decimal::width(n)
-}
-
-// A refusal's line, at the front of the room; answers how long it is.
-fn tell_refusal(room: &mut [u8], number: u64, place: u64) -> usize
-    requires { 64 ≤ length room.old }
-    ensures { (take result room.new ≡ refused number place) × (result ≤ 64) }
-{
-    let word_end = add(room, 0, b"refused ");
-    let number_end = add_number(room, word_end, number);
-    let at_end = add(room, number_end, b" at ");
-    let place_end = add_number(room, at_end, place);
-    add(room, place_end, b"\n")
-}
-
-// The same, as the written front of a lent line.
-fn refusal_line<'a>(line: &'a mut [u8], number: u64, place: u64) -> &'a mut [u8]
-    requires { 64 ≤ length line.old }
-    ensures { result.now ≡ refused number place }
-{
-    let n = tell_refusal(&mut *line, number, place);
-    &mut line[..n]
-}
-
-// What is to be written: the text, which is a part of the room, or the refusal's line, a part of `line`.
+// What is to be written: the text, which is a part of the room, or the refusal's line, which goes to `line`.
 fn answer<'a, 'b>(
     settings: &'b [u8],
     tree: &'b [u8],
     names: &'b [u8],
     room: &'a mut [u8],
-    line: &'a mut [u8],
-) -> &'a mut [u8]
-    requires { 64 ≤ length line.old }
+    line: &'a mut Line,
+) -> &'a [u8]
     ensures { result.now ≡ told (unit_outcome settings.now tree.now names.now room.old) (unit_text settings.now tree.now names.now) }
 {
-    let mut number: u64 = 0;
-    let mut place: u64 = 0;
-    let text = glsl::print_unit(settings, tree, names, room, &mut number, &mut place);
-    if number == 0 {
-        return text;
+    match glsl::print_unit(settings, tree, names, room) {
+        Ok(text) => text,
+        Err(why) => {
+            *line = Line::of(why);
+            line.written()
+        }
     }
-    refusal_line(line, number, place)
 }
 
 fn main(rt: HostRuntime) -> io::Result<()> {
+    let open = open_record();
     let mut settings = [0u8; 23];
     let mut tree = [0u8; 49153];
     let mut names = [0u8; 32769];
     let mut room = [0u8; 65536];
-    let mut line = [0u8; 64];
-    let open = open_record();
-    room::lay(&mut settings, 0, &open);
-    let settings_length = load(&rt, "settings.rec", &mut settings, 22);
-    let tree_length = load(&rt, "tree.rec", &mut tree, 0);
-    let names_length = load(&rt, "names.txt", &mut names, 0);
+    let mut line = Line::empty();
     let said = answer(
-        &settings[..settings_length],
-        &tree[..tree_length],
-        &names[..names_length],
+        input::load(&rt, "settings.rec", &mut settings).unwrap_or(&open),
+        input::load(&rt, "tree.rec", &mut tree).unwrap_or(&[]),
+        input::load(&rt, "names.txt", &mut names).unwrap_or(&[]),
         &mut room,
         &mut line,
     );

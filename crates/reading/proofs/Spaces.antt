@@ -1,4 +1,5 @@
 -- Settings are only layout, and joined is exact (specs/Spaces; 02, #107): of the public calls. Assumes nothing.
+use Rattle.std.specs.Prelude.{Ok, Err}
 use mathlib.Core.Path.{◌≡◌, refl, sym, ap, subst, ◌∙◌}
 use mathlib.Core.Bool.{Bool, true, false, cond}
 use mathlib.Core.List.{List, [], ◌∷◌}
@@ -7,8 +8,7 @@ use native.Mathlib.Omega.{arith}
 use lib.IntN.{ℤ, pos}
 use Rattle.settings.specs.Settings.{settings_of, TIGHT}
 use Rattle.draft.specs.declared.Root.{Root}
-use Rattle.draft.specs.declared.Root.TheVariants as Root
-use Rattle.accept.specs.declared.Checked.{Checked}
+use Rattle.accept.specs.Checked.{Checked}
 use Rattle.text.specs.Token.{Token}
 use Rattle.text.specs.Visible.{blank, visible}
 use Rattle.text.specs.Joined.{joined_answer}
@@ -20,9 +20,7 @@ use Rattle.lexis.proofs.Glsl.{vocabulary, glsl_between}
 use Rattle.lexis.proofs.Tests.{clash}
 use Rattle.division.proofs.Blank.{by_blank, first_blank}
 use Rattle.division.proofs.Exact.{needs_joined, joined_needs, places_kept, expr_split, expr_told, unit_split, unit_told}
-use Rattle.glsl.specs.declared.Whether.{Whether}
-use Rattle.glsl.specs.declared.Whether.TheVariants.{No, Yes, Refused}
-use Rattle.glsl.specs.Joined.{whether_joined, joined_outcome, Answers, joined_bits}
+use Rattle.glsl.specs.Joined.{Whether, whether_joined, joined_outcome, Answers, joined_bits}
 use Rattle.glsl.specs.Root.{root_text}
 use Rattle.glsl.proofs.Question.{answers}
 use Rattle.reading.specs.Call.{Call, UnitCall, ExprCall}
@@ -107,15 +105,15 @@ exactly_no root c u = (λ d. go (joined_answer c.records c.names) (λ j. told_so
     go false h = refl
 
 -- and the call answers by the rule
-answer_no : (j : Bool) (r : Whether) → r ≡ cond j Yes No → (j ≡ false → r ≡ No) × (r ≡ No → j ≡ false)
+answer_no : (j : Bool) (r : Whether) → r ≡ Ok j → (j ≡ false → r ≡ Ok false) × (r ≡ Ok false → j ≡ false)
 answer_no true r e = (λ q. clash refl q, λ q. let z : ◌≡◌ {A = ℕ} 0 1 = cc in absurd (omega arith))
 answer_no false r e = (λ q. e, λ q. refl)
 
-answered : (c : ExprCall) (r : Whether) → Answers c.records c.names r → r ≡ cond (joined_answer c.records c.names) Yes No
+answered : (c : ExprCall) (r : Whether) → Answers c.records c.names r → r ≡ Ok (joined_answer c.records c.names)
 unfolding whether_joined
 answered c r a = a.answered ∙ ap (λ (o : Checked). whether_joined o (joined_answer c.records c.names)) (records_accepted c).1
 
-exact_call : (c : ExprCall) → Unspaced (settings_of c.settings) → (r : Whether) → Answers c.records c.names r → (IsSplit glsl_word c → r ≡ No) × (r ≡ No → IsSplit glsl_word c)
+exact_call : (c : ExprCall) → Unspaced (settings_of c.settings) → (r : Whether) → Answers c.records c.names r → (IsSplit glsl_word c → r ≡ Ok false) × (r ≡ Ok false → IsSplit glsl_word c)
 exact_call c u r a =
     let no = answer_no (joined_answer c.records c.names) r (answered c r a) in
     let rule = exactly_no Root.Expr c u in
@@ -129,11 +127,11 @@ pub joined_is_exact : JoinedIsExact glsl_word
 joined_is_exact = record { tight = tight_unspaced; expressions = exact_call; rule = exactly_no; everywhere = λ c. (told_so c, split_so c); apart = λ c q. split_so c (none_needed c q); one_way = λ bytes ts us d e. one_division (vocabulary any glsl_word glsl_between) d e refl }
 
 -- from C: glsl_joined answers 0
-answer_bits : (o : Whether) → (o ≡ No → joined_bits o ≡ pos 0) × (joined_bits o ≡ pos 0 → o ≡ No)
+answer_bits : (o : Whether) → (o ≡ Ok false → joined_bits o ≡ pos 0) × (joined_bits o ≡ pos 0 → o ≡ Ok false)
 unfolding joined_bits
-answer_bits No = (λ e. refl, λ e. refl)
-answer_bits Yes = (λ e. let z : ◌≡◌ {A = ℕ} 0 1 = cc in absurd (omega arith), λ e. let z : ◌≡◌ {A = ℕ} 0 1 = cc in absurd (omega arith))
-answer_bits (Refused x p) = (λ e. let z : ◌≡◌ {A = ℕ} 0 1 = cc in absurd (omega arith), λ e. absurd (not_length x p 0 e))
+answer_bits (Ok false) = (λ e. refl, λ e. refl)
+answer_bits (Ok true) = (λ e. let z : ◌≡◌ {A = ℕ} 0 1 = cc in absurd (omega arith), λ e. let z : ◌≡◌ {A = ℕ} 0 1 = cc in absurd (omega arith))
+answer_bits (Err r) = (λ e. let z : ◌≡◌ {A = ℕ} 0 1 = cc in absurd (omega arith), λ e. absurd (not_length r.refusal r.place 0 e))
 
 pub exact_bits : (c : ExprCall) → Unspaced (settings_of c.settings) → (r : ℤ) → r ≡ joined_bits (joined_outcome c.records c.names) → (IsSplit glsl_word c → r ≡ pos 0) × (r ≡ pos 0 → IsSplit glsl_word c)
 exact_bits c u r e =

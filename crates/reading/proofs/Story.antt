@@ -2,6 +2,7 @@
 -- afterwards, minus k, and not as itself; and the joined question says so. Printed with the spaces that it needs and no others (02, #106; EXPORT) it is `n- --k`, and is read as itself. Where a
 -- unary sign or a dot runs together with what stands beside it operator spaces don't help: `---k` and `1.lf` are misread in OPEN too, and the joined question (02, #103) says so; spaces where they are
 -- needed do: `- --k` and `(1).lf` are read as themselves. Assumes nothing.
+use Rattle.std.specs.Prelude.{Ok}
 use mathlib.Core.Path.{◌≡◌, refl, sym, subst}
 use mathlib.Core.Bool.{Bool, true, false}
 use mathlib.Core.List.{List, [], ◌∷◌, ◌++◌}
@@ -31,10 +32,8 @@ use Rattle.lexis.proofs.Tests.{both}
 use Rattle.lexis.proofs.Glsl.{glsl_between}
 use Rattle.glsl.specs.Printed.{expr_outcome, front, fitted, outcome}
 use Rattle.glsl.specs.Joined.{whether_joined, joined_outcome}
-use Rattle.glsl.specs.declared.Whether.TheVariants.{No, Yes}
 use Rattle.reading.specs.Read.{IsRead}
 use Rattle.draft.specs.declared.Root.{Root}
-use Rattle.draft.specs.declared.Root.TheVariants as Root
 use Rattle.reading.specs.Call.{Promised, Call, ExprCall}
 use Rattle.reading.specs.Demand3.{SpacedAndSound}
 use Rattle.reading.proofs.Computing.{reading}
@@ -103,8 +102,8 @@ pub record Lost (records others names : List ℕ) (written : String) (tree other
   pub second : (expr (from others names 0)).tree ≡ other
   pub read : IsRead glsl_word (bytes written) other
   pub lost : IsRead glsl_word (bytes written) tree → ⊥
-  pub joined : joined_outcome records names ≡ Yes
-  pub not_joined : joined_outcome others names ≡ No
+  pub joined : joined_outcome records names ≡ Ok true
+  pub not_joined : joined_outcome others names ≡ Ok false
 
 -- with the spaces that it needs and no others, a tree is printed as this text, which is read as that tree
 pub record Exported (records names : List ℕ) (written : String) (tree : Expr) : Type 0 where

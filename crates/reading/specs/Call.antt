@@ -2,7 +2,6 @@
 -- (proofs/Contract). Assumes nothing.
 use Rattle.std.specs.Prelude.{◌≡◌, List, ℕ, ◌<◌, get_or}
 use Rattle.draft.specs.declared.Root.{Root}
-use Rattle.draft.specs.declared.Root.TheVariants as Root
 use Rattle.glsl.specs.Printed.{HandsBack}
 use Rattle.glsl.specs.Root.{root_text, print_outcome}
 

@@ -4,11 +4,10 @@
 --
 -- Where each word is defined: a blank, and a text without its blanks, in crate text (specs/Visible); the tokens of a tree there too (specs/Whole); the rule of joined tokens there (specs/Joins, Joined), and which
 -- of them need a space in crate division (specs/Needed); longest match and GLSL's words in crate lexis (specs/Division, Glsl, Number); what joined promises (`Answers`) in crate glsl (specs/Joined). Assumes nothing.
-use Rattle.std.specs.Prelude.{◌≡◌, Bool, true, false, List, [], ◌∷◌, ℕ}
+use Rattle.std.specs.Prelude.{◌≡◌, Bool, true, false, List, [], ◌∷◌, ℕ, Ok}
 use Rattle.settings.specs.declared.Settings.{Settings}
 use Rattle.settings.specs.Settings.{settings_of, TIGHT}
 use Rattle.draft.specs.declared.Root.{Root}
-use Rattle.draft.specs.declared.Root.TheVariants as Root
 use Rattle.text.specs.Token.{Token}
 use Rattle.text.specs.Visible.{blank, visible}
 use Rattle.text.specs.Whole.{unit_tokens, expr_tokens}
@@ -16,9 +15,7 @@ use Rattle.text.specs.Joined.{joined_answer}
 use Rattle.lexis.specs.Glsl.{glsl_word, Splits}
 use Rattle.lexis.specs.Preprocessing.{Between}
 use Rattle.division.specs.Needed.{needs_space}
-use Rattle.glsl.specs.declared.Whether.{Whether}
-use Rattle.glsl.specs.declared.Whether.TheVariants.{No}
-use Rattle.glsl.specs.Joined.{Answers}
+use Rattle.glsl.specs.Joined.{Whether, Answers}
 use Rattle.lexis.specs.Keywords.{listed}
 use Rattle.sound.specs.Sound.{Sound}
 use Rattle.reading.specs.Call.{Call, UnitCall, ExprCall}
@@ -78,7 +75,7 @@ pub record JoinedIsExact (W : List ℕ → Bool) : Type 0 where
   -- TIGHT is such settings
   pub tight : Unspaced (settings_of TIGHT)
   -- of an expression that is printed under them, the call `joined` answers no exactly where the text is split into its tokens
-  pub expressions : (c : ExprCall) → Unspaced (settings_of c.settings) → (r : Whether) → Answers c.records c.names r → (IsSplit W c → r ≡ No) × (r ≡ No → IsSplit W c)
+  pub expressions : (c : ExprCall) → Unspaced (settings_of c.settings) → (r : Whether) → Answers c.records c.names r → (IsSplit W c → r ≡ Ok false) × (r ≡ Ok false → IsSplit W c)
   -- so does the rule by which it answers; this can be asked of a unit's records too, and says whether some expression in it is joined
   pub rule : (root : Root) → ExactlyNo W root joined_answer
   -- under any settings a text is split into its tokens exactly where every space that is needed is there: none is, or byte 21 is 1
@@ -94,7 +91,7 @@ pub record JoinedIsExact (W : List ℕ → Bool) : Type 0 where
 -- other are told apart by their texts. Sound is meant as where needed spaces are kept: the conditions that fall away there follow from the answer.
 pub data ApartOrUnjoined (c : ExprCall) : Type 0 where
   apart : ApartAndSound c → ApartOrUnjoined c
-  unjoined : (r : Whether) → Answers c.records c.names r → r ≡ No → Sound listed true (recorded c) → ApartOrUnjoined c
+  unjoined : (r : Whether) → Answers c.records c.names r → r ≡ Ok false → Sound listed true (recorded c) → ApartOrUnjoined c
 
 abbrev pub ReadIfUnjoined : (W : List ℕ → Bool) → Type 0
 ReadIfUnjoined W = ReadBack W ApartOrUnjoined

@@ -3,10 +3,15 @@ use mathlib.Core.Path.{◌≡◌, refl, sym, ◌∙◌, ap}
 use mathlib.Core.Bool.{Bool, true, false}
 use mathlib.Core.List.{List, []}
 use Prim.Native.Nat.{ℕ, ◌+◌, ◌*◌, ◌≤◌, ◌<◌, ◌^◌}
+use native.Mathlib.Nat.{add-sub_cancel_left}
 use native.Mathlib.Omega.{arith}
 use lib.ListN.{length, get_or, take, drop, length-drop}
 use lib.Seq.{length-take-le}
 use lib.Dec.{leb, ltb}
+use denote.Ref.{Bor}
+use Rattle.std.specs.Prelude.{Option, Some, None}
+use Rattle.std.specs.Option.{unwrap_or}
+use Rattle.std.specs.List.{PartBy}
 use borrow.Author.Tests.{lt-ltb, le-ltb, le-leb, lt-leb, leb-true, leb-false, ltb-true, ltb-false}
 use Rattle.records.specs.declared.Record.{Record}
 use Rattle.records.specs.Record.{record_in, record_count, record_at, no_record, part, text_of, name_at}
@@ -31,6 +36,9 @@ same_answer m n i k both neither = go (leb m n) refl
     go : (b : Bool) → leb m n ≡ b → b ≡ ltb i k
     go true e = sym (lt-ltb i k (both (leb-true _ _ e)))
     go false e = sym (le-ltb i k (neither (leb-false _ _ e)))
+
+pub all_zero : (r : Record) → (r.kind ≡ 0) × (r.variant ≡ 0 × (r.count ≡ 0 × (r.a ≡ 0 × r.b ≡ 0))) → r ≡ no_record
+all_zero r (k, (v, (n, (a, b)))) = let e : record { kind = r.kind; variant = r.variant; count = r.count; a = r.a; b = r.b } ≡ no_record = cc in e
 
 module _ (bs : List ℕ) (i : ℕ) where
   -- where a record stands, its 12 bytes do
@@ -70,6 +78,11 @@ module _ (names : List ℕ) (a b : ℕ) where
 
   pub length_within : a + b ≤ length names → length (part names a b) ≡ b
   length_within h = ap length (part_within h) ∙ length-take-le b (drop a names) (simp length-drop (omega arith))
+
+  -- what `get` gives, or else nothing
+  pub part_got : (none : Bor (List ℕ)) (got : Option (Bor (List ℕ))) → none.now ≡ [] → PartBy (λ (text : Bor (List ℕ)). text.now) names a (a + b) got → (unwrap_or got none).now ≡ part names a b
+  part_got none None e got = e ∙ sym (part_beyond (omega (arith, got.0)))
+  part_got none (Some text) e got = got.0.2 ∙ ap (λ (n : ℕ). take n (drop a names)) (add-sub_cancel_left a b) ∙ sym (part_within got.0.1)
 
 -- 01, "Calls": a name is empty if no whole record stands there
 pub name_behind : (bs names : List ℕ) (i : ℕ) → record_count bs ≤ i → name_at bs names i ≡ []

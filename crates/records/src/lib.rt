@@ -1,11 +1,18 @@
 // The records of a tree, read from the lent bytes, and the text that a record names.
 #![tactic(auto)]
 
-ghost use Rattle.std.specs.Prelude.{◌≡◌, ◌+◌, ◌≤◌, ◌<◌, ltb, length};
-ghost use Rattle.records.specs.Record.{u16_at, u32_at, record_in, record_count, record_at, part, name_at};
+ghost use Rattle.std.specs.Prelude.{◌≡◌, ltb};
+ghost use Rattle.records.specs.Record.{record_in, record_count, record_at, part, text_of, name_at};
+ghost use Rattle.records.specs.Kind.{kind_of};
+
+pub mod kind;
+
+use kind::Kind;
+
+const RECORD_SIZE: usize = 12;
 
 // A record's fields.
-#[derive(Clone, Copy)]
+#[derive(Clone, Copy, Debug, Default, PartialEq, Eq)]
 pub struct Record {
     pub kind: u8,
     pub variant: u8,
@@ -18,7 +25,7 @@ pub struct Record {
 pub fn whole_records(records: &[u8]) -> usize
     ensures { result ≡ record_count records.now }
 {
-    records.len() / 12
+    records.len() / RECORD_SIZE
 }
 
 // Does a whole record stand at i?
@@ -28,47 +35,27 @@ pub fn stands(records: &[u8], i: usize) -> bool
     i < whole_records(records)
 }
 
-// A byte, for sums of 16 bits.
-fn wide16(x: u8) -> u16
-    ensures { (result ≡ x) × (result < 256) }
-{
-    x as u16
-}
+impl Record {
+    // The record that is these bytes.
+    fn of(bytes: &[u8; RECORD_SIZE]) -> Record
+        ensures { result ≡ record_in bytes.now 0 }
+    {
+        let [kind, variant, c0, c1, a0, a1, a2, a3, b0, b1, b2, b3] = *bytes;
+        Record {
+            kind,
+            variant,
+            count: u16::from_le_bytes([c0, c1]),
+            a: u32::from_le_bytes([a0, a1, a2, a3]),
+            b: u32::from_le_bytes([b0, b1, b2, b3]),
+        }
+    }
 
-// 16 bits, for sums of 32.
-fn wide32(x: u16) -> u32
-    ensures { result ≡ x }
-{
-    x as u32
-}
-
-// The two bytes from p on, the lower first.
-fn u16_in(records: &[u8], p: usize) -> u16
-    requires { p + 2 ≤ length records.now }
-    ensures { result ≡ u16_at records.now p }
-{
-    wide16(records[p]) + 256 * wide16(records[p + 1])
-}
-
-// The four bytes from p on, the lowest first.
-fn u32_in(records: &[u8], p: usize) -> u32
-    requires { p + 4 ≤ length records.now }
-    ensures { result ≡ u32_at records.now p }
-{
-    wide32(u16_in(records, p)) + 65536 * wide32(u16_in(records, p + 2))
-}
-
-// The record that begins at byte p.
-fn record_in(records: &[u8], p: usize) -> Record
-    requires { p + 12 ≤ length records.now }
-    ensures { result ≡ record_in records.now p }
-{
-    Record {
-        kind: records[p],
-        variant: records[p + 1],
-        count: u16_in(records, p + 2),
-        a: u32_in(records, p + 4),
-        b: u32_in(records, p + 8),
+    // What it is, if its kind is one.
+    #[inline(always)]
+    pub fn kind(&self) -> Option<Kind>
+        ensures { result ≡ kind_of self.now.kind }
+    {
+        Kind::of(self.kind)
     }
 }
 
@@ -76,15 +63,10 @@ fn record_in(records: &[u8], p: usize) -> Record
 pub fn record_at(records: &[u8], i: usize) -> Record
     ensures { result ≡ record_at records.now i }
 {
-    if stands(records, i) {
-        return record_in(records, 12 * i);
-    }
-    Record {
-        kind: 0,
-        variant: 0,
-        count: 0,
-        a: 0,
-        b: 0,
+    let (whole, _) = records.as_chunks::<RECORD_SIZE>();
+    match whole.get(i) {
+        Some(bytes) => Record::of(bytes),
+        None => Record::default(),
     }
 }
 
@@ -92,32 +74,22 @@ pub fn record_at(records: &[u8], i: usize) -> Record
 pub fn kind_at(records: &[u8], i: usize) -> u8
     ensures { result ≡ (record_at records.now i).kind }
 {
-    if stands(records, i) {
-        return records[12 * i];
-    }
-    0
+    record_at(records, i).kind
 }
 
 // The variant of record i alone, 0 where none stands.
 pub fn variant_at(records: &[u8], i: usize) -> u8
     ensures { result ≡ (record_at records.now i).variant }
 {
-    if stands(records, i) {
-        return records[12 * i + 1];
-    }
-    0
+    record_at(records, i).variant
 }
 
-// The part of the names at offset a, length b: nothing where it ends beyond them. The sum of two 32 bits is taken in 64.
+// The part of the names at offset a, length b: nothing where it ends beyond them. The sum of two 32 bits is taken in 64. (By `as`, here and where a place becomes an index: std has no From for it.)
 pub fn part_of<'n>(names: &'n [u8], a: u32, b: u32) -> &'n [u8]
     ensures { result.now ≡ part names.now a b }
 {
     let start = a as usize;
-    let end = start + (b as usize);
-    if end <= names.len() {
-        return &names[start..end];
-    }
-    &names[0..0]
+    names.get(start..start + b as usize).unwrap_or(&[])
 }
 
 // The text of the record at any index, whatever its kind: nothing where no whole record stands there or the text ends beyond the names.
@@ -126,4 +98,56 @@ pub fn name<'n>(records: &[u8], names: &'n [u8], i: usize) -> &'n [u8]
 {
     let r = record_at(records, i);
     part_of(names, r.a, r.b)
+}
+
+// A tree as it is lent: the bytes of its records, and the names that they mention.
+#[derive(Clone, Copy, Debug)]
+pub struct Tree<'a> {
+    pub records: &'a [u8],
+    pub names: &'a [u8],
+}
+
+impl<'a> Tree<'a> {
+    // Does a whole record stand at i?
+    pub fn stands(&self, i: usize) -> bool
+        ensures { result ≡ ltb i (record_count self.now.records.now) }
+    {
+        stands(self.records, i)
+    }
+
+    // Record i, all 0 where no whole record stands.
+    pub fn record_at(&self, i: usize) -> Record
+        ensures { result ≡ record_at self.now.records.now i }
+    {
+        record_at(self.records, i)
+    }
+
+    // The kind of record i alone, 0 where none stands.
+    pub fn kind_at(&self, i: usize) -> u8
+        ensures { result ≡ (record_at self.now.records.now i).kind }
+    {
+        kind_at(self.records, i)
+    }
+
+    // The variant of record i alone, 0 where none stands.
+    pub fn variant_at(&self, i: usize) -> u8
+        ensures { result ≡ (record_at self.now.records.now i).variant }
+    {
+        variant_at(self.records, i)
+    }
+
+    // What record i is, if a whole record stands there and its kind is one.
+    #[inline(always)]
+    pub fn kind(&self, i: usize) -> Option<Kind>
+        ensures { result ≡ kind_of (record_at self.now.records.now i).kind }
+    {
+        Kind::of(self.kind_at(i))
+    }
+
+    // T of a record: nothing where it ends beyond the names.
+    pub fn text_of(&self, r: Record) -> &'a [u8]
+        ensures { result.now ≡ text_of self.now.names.now r }
+    {
+        part_of(self.names, r.a, r.b)
+    }
 }

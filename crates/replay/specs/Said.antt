@@ -1,9 +1,13 @@
--- What a sample has of the joined question's answer beside the refusal's number: 1 for yes, 0 for no, or the refusal's place. Assumes nothing.
-use Rattle.std.specs.Prelude.{ℕ}
-use Rattle.glsl.specs.declared.Whether.{Whether}
-use Rattle.glsl.specs.declared.Whether.TheVariants as Answer
+-- What a sample has of an answer beside the refusal's number: of the joined question 1 for yes, 0 for no, or the refusal's place. Assumes nothing.
+use Rattle.std.specs.Prelude.{ℕ, Bool, true, false, Result, Ok, Err}
+use Rattle.accept.specs.declared.Refused.{Refused}
+use Rattle.draft.specs.declared.Root.{Root}
 
-abbrev pub joined_value : Whether → ℕ
-joined_value Answer.No = 0
-joined_value Answer.Yes = 1
-joined_value (Answer.Refused x p) = p
+abbrev pub joined_value : Result Bool Refused → ℕ
+joined_value (Ok false) = 0
+joined_value (Ok true) = 1
+joined_value (Err r) = r.place
+
+abbrev pub is_unit : Root → Bool
+is_unit Root.Unit = true
+is_unit Root.Expr = false

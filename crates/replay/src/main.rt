@@ -2,242 +2,76 @@
 // functions again, TIGHT, OPEN and EXPORT too, and compares answers, parts that are handed back, and every byte of the room. Reading is total: what stands beyond a sample's end reads as nothing, and then the answers differ.
 #![tactic(auto)]
 
-ghost use Rattle.std.specs.Prelude.{◌≡◌, ◌&&◌, ◌||◌, cond, ◌+◌, ◌*◌, ◌/◌, ◌%◌, ◌≤◌, min, eqb};
-ghost use Rattle.input.specs.Counts.{IsPrefixLen};
+ghost use Rattle.std.specs.Prelude.{◌≡◌, ◌&&◌, ◌||◌, ◌+◌, ◌*◌, ◌/◌, ◌%◌, eqb};
 ghost use Rattle.words.specs.Form.{same};
 ghost use Rattle.records.specs.Record.{name_at};
 ghost use Rattle.settings.specs.Bytes.{settings_bytes};
-ghost use Rattle.pen.specs.Sheet.{last_place};
-ghost use Rattle.text.specs.Whole.{unit_text, expr_text};
-ghost use Rattle.glsl.specs.Printed.{Prints, unit_outcome, expr_outcome, refusal_number};
-ghost use Rattle.glsl.specs.Root.{value};
+ghost use Rattle.glsl.specs.Printed.{Prints, refusal_number};
+ghost use Rattle.glsl.specs.Root.{value, print_outcome, root_text};
 ghost use Rattle.glsl.specs.Joined.{joined_number, joined_outcome};
-ghost use Rattle.replay.specs.Said.{joined_value};
+ghost use Rattle.replay.specs.Said.{joined_value, is_unit};
 
-use glsl::{Printed, Whether};
-use records::Record;
+use accept::Refused;
+use draft::Root;
+use records::{Record, Tree};
 use settings::{FormattingState, Settings};
+use std::io;
 use std::rt::Files;
-use std::{fs, io};
 
 // The bytes of a record, and of the three records that begin a case.
 const RECORD: u32 = 12;
 
 const HEAD: u32 = 36;
 
-// What a sample asks, by the kind of its first record: for prints of units, for records' names, for states, and with any other for prints of expressions.
-const UNITS: u8 = 80;
-
-const NAMES: u8 = 1;
-
-const STATES: u8 = 2;
-
-// What is called on a state, by the kind of a case: to consume a newline, to ask for one; any other asks for one that is not required.
-const CONSUME: u8 = 0;
-
-const REQUIRED: u8 = 2;
-
 // What a room holds before a call.
 const BLANK: u8 = 165;
 
-// What the lent numbers hold before a call: no number and no place of a refusal.
-const UNSET: u64 = 18446744073709551615;
-
-// An answer as the sample has it: a refusal's number, 0 for none, and the value beside it.
+// What a sample asks.
 #[derive(Clone, Copy)]
-struct Answer {
-    number: u64,
-    value: u64,
+enum Asked {
+    Prints(Root),
+    Names,
+    States,
 }
 
-fn print_answer(o: Printed) -> Answer
-    ensures { (result.number ≡ refusal_number o) × (result.value ≡ value o) }
-{
-    match o {
-        Printed::Text(n) => Answer {
-            number: 0,
-            value: n as u64,
-        },
-        Printed::Refused(x, p) => Answer {
-            number: checks::number_of(x),
-            value: p as u64,
-        },
+// By the kind of its first record.
+impl From<u8> for Asked {
+    fn from(kind: u8) -> Asked {
+        match kind {
+            80 => Asked::Prints(Root::Unit),
+            1 => Asked::Names,
+            2 => Asked::States,
+            _ => Asked::Prints(Root::Expr),
+        }
     }
 }
 
-fn joined_answer(o: Whether) -> Answer
-    ensures { (result.number ≡ joined_number o) × (result.value ≡ joined_value o) }
-{
-    match o {
-        Whether::No => Answer {
-            number: 0,
-            value: 0,
-        },
-        Whether::Yes => Answer {
-            number: 0,
-            value: 1,
-        },
-        Whether::Refused(x, p) => Answer {
-            number: checks::number_of(x),
-            value: p as u64,
-        },
+// What is called on a state: to consume a newline, or to ask for one.
+#[derive(Clone, Copy)]
+enum Call {
+    ConsumeNewline,
+    NewLine { required: bool },
+}
+
+// By the kind of a case.
+impl From<u8> for Call {
+    fn from(kind: u8) -> Call {
+        match kind {
+            0 => Call::ConsumeNewline,
+            2 => Call::NewLine { required: true },
+            _ => Call::NewLine { required: false },
+        }
     }
 }
 
-// Whether an answer is the one that the sample has.
-fn is(o: Answer, number: u8, value: u32) -> bool
-    ensures { result ≡ eqb o.number number && eqb o.value value }
-{
-    (o.number == number as u64) & (o.value == value as u64)
-}
-
-// Where n bytes from `at` on end, at most the greatest number.
-fn end_of(at: u32, n: u32) -> u32
-    ensures { result ≡ min (at + n) last_place }
-{
-    if n <= 4294967295 - at {
-        return at + n;
+impl Call {
+    // The state that it leaves.
+    fn on(self, state: FormattingState) -> FormattingState {
+        match self {
+            Call::ConsumeNewline => lent::after_consume_newline(state),
+            Call::NewLine { required } => lent::after_new_line(state, required),
+        }
     }
-    4294967295
-}
-
-// The print of a unit or of an expression.
-fn print_into(is_unit: bool, settings: &[u8], tree: &[u8], names: &[u8], room: &mut [u8]) -> Printed
-    ensures { Prints (cond is_unit (unit_outcome settings.now tree.now names.now room.old) (expr_outcome settings.now tree.now names.now room.old)) (cond is_unit (unit_text settings.now tree.now names.now) (expr_text settings.now tree.now names.now)) room.old room.new result }
-{
-    if is_unit {
-        return glsl::print_unit_into(settings, tree, names, room);
-    }
-    glsl::print_expr_into(settings, tree, names, room)
-}
-
-// Whether the print answers so, and leaves a blank room as it is said to.
-fn prints_so(
-    is_unit: bool,
-    settings: &[u8],
-    tree: &[u8],
-    names: &[u8],
-    room: &mut [u8],
-    number: u8,
-    value: u32,
-    after: &[u8],
-) -> bool {
-    let n = room.len();
-    room::lay_run(room, 0, BLANK, n);
-    let print = print_answer(print_into(is_unit, settings, tree, names, room));
-    is(print, number, value) && words::same(room, after)
-}
-
-// The print of a unit or of an expression that hands back the written front of the room.
-fn print<'a, 'b>(
-    is_unit: bool,
-    settings: &'b [u8],
-    tree: &'b [u8],
-    names: &'b [u8],
-    room: &'a mut [u8],
-    number: &'b mut u64,
-    place: &'b mut u64,
-) -> &'a mut [u8] {
-    if is_unit {
-        return glsl::print_unit(settings, tree, names, room, number, place);
-    }
-    glsl::print_expr(settings, tree, names, room, number, place)
-}
-
-// What it says of a refusal, if it hands back this text; else what no print says.
-fn print_part<'b>(
-    is_unit: bool,
-    settings: &'b [u8],
-    tree: &'b [u8],
-    names: &'b [u8],
-    room: &mut [u8],
-    text: &[u8],
-) -> Answer {
-    let mut number: u64 = UNSET;
-    let mut value: u64 = UNSET;
-    let part = print(
-        is_unit,
-        settings,
-        tree,
-        names,
-        room,
-        &mut number,
-        &mut value,
-    );
-    if words::same(part, text) {
-        return Answer { number, value };
-    }
-    Answer {
-        number: UNSET,
-        value: UNSET,
-    }
-}
-
-// The place of a refusal; a text has none, and its length is beside it.
-fn place_of(number: u8, value: u32) -> u32
-    ensures { result ≤ value }
-{
-    if number == 0 {
-        return 0;
-    }
-    value
-}
-
-// Whether that print hands back the text and no more, says so, and leaves a blank room as it is said to.
-fn hands_back_so<'b>(
-    is_unit: bool,
-    settings: &'b [u8],
-    tree: &'b [u8],
-    names: &'b [u8],
-    room: &mut [u8],
-    number: u8,
-    value: u32,
-    after: &[u8],
-) -> bool {
-    let n = room.len();
-    room::lay_run(room, 0, BLANK, n);
-    let said_place = place_of(number, value);
-    let text = records::part_of(after, 0, value - said_place);
-    let said = print_part(is_unit, settings, tree, names, room, text);
-    is(said, number, said_place) && words::same(room, after)
-}
-
-// Both in the front of a room, as long as what is behind the call.
-fn prints_so_in_front<'b>(
-    is_unit: bool,
-    settings: &'b [u8],
-    tree: &'b [u8],
-    names: &'b [u8],
-    room: &mut [u8],
-    number: u8,
-    value: u32,
-    after: &[u8],
-) -> bool {
-    let n = after.len();
-    if room.len() < n {
-        return false;
-    }
-    let front = &mut room[..n];
-    prints_so(is_unit, settings, tree, names, front, number, value, after)
-        && hands_back_so(is_unit, settings, tree, names, front, number, value, after)
-}
-
-// Whether the joined question is answered so; a unit is not asked about.
-fn joins_so(is_unit: bool, tree: &[u8], names: &[u8], number: u8, value: u32) -> bool
-    ensures { result ≡ (is_unit || eqb (joined_number (joined_outcome tree.now names.now)) number && eqb (joined_value (joined_outcome tree.now names.now)) value) }
-{
-    if is_unit {
-        return true;
-    }
-    is(joined_answer(glsl::joined(tree, names)), number, value)
-}
-
-// Whether the name of the record at an index, which comes in two halves, is so.
-fn names_so(tree: &[u8], names: &[u8], low: u32, high: u32, text: &[u8]) -> bool
-    ensures { result ≡ same (name_at tree.now names.now (low + 4294967296 * high)) text.now }
-{
-    let i = low as usize + 4294967296 * (high as usize);
-    words::same(records::name(tree, names, i), text)
 }
 
 // A state, by its level and its flags.
@@ -251,114 +85,195 @@ fn state_of(level: u16, flags: u8) -> FormattingState
     }
 }
 
-// The state that a call leaves.
-fn left_by(call: u8, state: FormattingState) -> FormattingState {
-    if call == CONSUME {
-        return lent::after_consume_newline(state);
-    }
-    lent::after_new_line(state, call == REQUIRED)
+// An answer as the sample has it: a refusal's number, 0 for none, and the length or the place beside it. (The numbers of the samples' format, which another program writes.)
+#[derive(Clone, Copy)]
+struct Said {
+    number: u8,
+    value: u32,
 }
 
-// Whether the call leaves the state so.
-fn leaves_so(before: Record, after: Record) -> bool {
-    let state = left_by(before.kind, state_of(before.count, before.variant));
-    let said = state_of(after.count, after.variant);
-    (state.indentation_level == said.indentation_level)
-        & (state.new_line_pending == said.new_line_pending)
-        & (state.in_function_definition_statement == said.in_function_definition_statement)
+impl Said {
+    // Whether it is this answer.
+    fn is(self, answer: Result<usize, Refused>) -> bool
+        ensures { result ≡ eqb (refusal_number answer) self.number && eqb (value answer) self.value }
+    {
+        match answer {
+            Ok(length) => self.number == 0 && length == self.value as usize,
+            Err(why) => {
+                u64::from(why.refusal) == u64::from(self.number) && why.place == self.value as usize
+            }
+        }
+    }
 }
 
-// Whether what is asked is answered as the case at a place says.
-fn agrees(asked: u8, sample: &[u8], place: u32, room: &mut [u8]) -> bool {
-    let head = records::part_of(sample, place, HEAD);
-    let first = records::record_at(head, 0);
-    let second = records::record_at(head, 1);
-    let third = records::record_at(head, 2);
-    if asked == STATES {
-        return leaves_so(first, second);
-    }
-    let settings_at = end_of(place, HEAD);
-    let tree_at = end_of(settings_at, first.a);
-    let names_at = end_of(tree_at, first.b);
-    let after_at = end_of(names_at, second.a);
-    let settings = records::part_of(sample, settings_at, first.a);
-    let tree = records::part_of(sample, tree_at, first.b);
-    let names = records::part_of(sample, names_at, second.a);
-    let after = records::part_of(sample, after_at, second.b);
-    if asked == NAMES {
-        return names_so(tree, names, third.a, third.b, after);
-    }
-    let is_unit = asked == UNITS;
-    joins_so(is_unit, tree, names, second.kind, third.b)
-        && prints_so_in_front(
-            is_unit, settings, tree, names, room, first.kind, third.a, after,
-        )
+// A case: the three records that begin it, and the parts behind them.
+#[derive(Clone, Copy)]
+struct Case<'a> {
+    first: Record,
+    second: Record,
+    third: Record,
+    settings: &'a [u8],
+    tree: Tree<'a>,
+    after: &'a [u8],
 }
 
-// Where the case behind the one at a place begins.
-fn next(sample: &[u8], place: u32) -> u32 {
-    let head = records::part_of(sample, place, HEAD);
-    let first = records::record_at(head, 0);
-    let second = records::record_at(head, 1);
-    let names_at = end_of(end_of(end_of(place, HEAD), first.a), first.b);
-    end_of(end_of(names_at, second.a), second.b)
+impl<'a> Case<'a> {
+    // The case at a place of a sample, and the place behind it.
+    fn at(sample: &'a [u8], place: u32) -> (Case<'a>, u32) {
+        let head = records::part_of(sample, place, HEAD);
+        let first = records::record_at(head, 0);
+        let second = records::record_at(head, 1);
+        let settings_at = place.saturating_add(HEAD);
+        let tree_at = settings_at.saturating_add(first.a);
+        let names_at = tree_at.saturating_add(first.b);
+        let after_at = names_at.saturating_add(second.a);
+        let case = Case {
+            first,
+            second,
+            third: records::record_at(head, 2),
+            settings: records::part_of(sample, settings_at, first.a),
+            tree: Tree {
+                records: records::part_of(sample, tree_at, first.b),
+                names: records::part_of(sample, names_at, second.a),
+            },
+            after: records::part_of(sample, after_at, second.b),
+        };
+        (case, after_at.saturating_add(second.b))
+    }
+
+    // What the print answered.
+    fn printed(&self) -> Said {
+        Said {
+            number: self.first.kind,
+            value: self.third.a,
+        }
+    }
+
+    // The print into a room.
+    fn print_into(&self, root: Root, room: &mut [u8]) -> Result<usize, Refused>
+        ensures { Prints (print_outcome root self.now.settings.now self.now.tree.records.now self.now.tree.names.now room.old) (root_text root self.now.settings.now self.now.tree.records.now self.now.tree.names.now) room.old room.new result }
+    {
+        let Tree { records, names } = self.tree;
+        match root {
+            Root::Unit => glsl::print_unit_into(self.settings, records, names, room),
+            Root::Expr => glsl::print_expr_into(self.settings, records, names, room),
+        }
+    }
+
+    // The print that hands back the written front of the room.
+    fn print<'r>(&self, root: Root, room: &'r mut [u8]) -> Result<&'r mut [u8], Refused> {
+        let Tree { records, names } = self.tree;
+        match root {
+            Root::Unit => glsl::print_unit(self.settings, records, names, room),
+            Root::Expr => glsl::print_expr(self.settings, records, names, room),
+        }
+    }
+
+    // Whether the print answers so, and leaves a blank room as it is said to.
+    fn prints_so(&self, root: Root, room: &mut [u8]) -> bool {
+        room.fill(BLANK);
+        let answer = self.print_into(root, room);
+        self.printed().is(answer) && words::same(room, self.after)
+    }
+
+    // Whether that print hands back the text and no more, or refuses so, and leaves a blank room as it is said to.
+    fn hands_back_so(&self, root: Root, room: &mut [u8]) -> bool {
+        room.fill(BLANK);
+        let said = self.printed();
+        let is_so = match self.print(root, &mut *room) {
+            Ok(text) => {
+                said.number == 0 && words::same(text, records::part_of(self.after, 0, said.value))
+            }
+            Err(why) => said.is(Err(why)),
+        };
+        is_so && words::same(room, self.after)
+    }
+
+    // Both in the front of a room, as long as what is behind the call.
+    fn prints_so_in_front(&self, root: Root, room: &mut [u8]) -> bool {
+        match room.get_mut(..self.after.len()) {
+            None => false,
+            Some(front) => self.prints_so(root, front) && self.hands_back_so(root, front),
+        }
+    }
+
+    // Whether the joined question is answered so; a unit is not asked about.
+    fn joins_so(&self, root: Root) -> bool
+        ensures { result ≡ (is_unit root || eqb (joined_number (joined_outcome self.now.tree.records.now self.now.tree.names.now)) self.now.second.kind && eqb (joined_value (joined_outcome self.now.tree.records.now self.now.tree.names.now)) self.now.third.b) }
+    {
+        let said = Said {
+            number: self.second.kind,
+            value: self.third.b,
+        };
+        match root {
+            Root::Unit => true,
+            Root::Expr => {
+                let answer = glsl::joined(self.tree.records, self.tree.names);
+                said.is(answer.map(usize::from))
+            }
+        }
+    }
+
+    // Whether the name of the record at an index, which comes in two halves, is so.
+    fn names_so(&self) -> bool
+        ensures { result ≡ same (name_at self.now.tree.records.now self.now.tree.names.now (self.now.third.a + 4294967296 * self.now.third.b)) self.now.after.now }
+    {
+        let i = self.third.a as usize + 4294967296 * (self.third.b as usize);
+        let name = records::name(self.tree.records, self.tree.names, i);
+        words::same(name, self.after)
+    }
+
+    // Whether the call leaves the state so.
+    fn leaves_so(&self) -> bool {
+        let Case { first, second, .. } = *self;
+        let state = Call::from(first.kind).on(state_of(first.count, first.variant));
+        state == state_of(second.count, second.variant)
+    }
+
+    // Whether what is asked is answered as the case says.
+    fn agrees(&self, asked: Asked, room: &mut [u8]) -> bool {
+        match asked {
+            Asked::States => self.leaves_so(),
+            Asked::Names => self.names_so(),
+            Asked::Prints(root) => self.joins_so(root) && self.prints_so_in_front(root, room),
+        }
+    }
 }
 
 // How many cases the sample says that it has.
 fn cases_in(sample: &[u8]) -> u32 {
-    let first = records::record_at(sample, 0);
-    first.a
+    records::record_at(sample, 0).a
 }
 
-// What the sample asks.
-fn asked_in(sample: &[u8]) -> u8 {
-    let first = records::record_at(sample, 0);
-    first.kind
-}
-
-// The number of the first case that differs, 0 for none.
-fn first_differing(sample: &[u8], room: &mut [u8]) -> u32 {
-    let asked = asked_in(sample);
-    let cases = cases_in(sample);
-    let mut place: u32 = RECORD;
-    let mut k: u32 = 0;
-    while k < cases {
-        k += 1;
-        if !agrees(asked, sample, place, room) {
-            return k;
+// The number of the first case that differs.
+fn first_differing(sample: &[u8], room: &mut [u8]) -> Option<usize> {
+    let asked = Asked::from(records::record_at(sample, 0).kind);
+    let mut place = RECORD;
+    for k in 0..cases_in(sample) as usize {
+        let (case, behind) = Case::at(sample, place);
+        if !case.agrees(asked, room) {
+            return Some(k + 1);
         }
-        place = next(sample, place);
+        place = behind;
     }
-    0
+    None
 }
 
-fn report(rt: &impl Print, cases: u32, differing: u32) -> io::Result<()> {
-    if differing == 0 {
-        println!(rt; "{cases} cases, 0 differ")
-    } else {
-        println!(rt; "case {differing} differs")
-    }
-}
-
-// What a file holds, at most the buffer; nothing where it can't be opened.
-fn load(files: &impl Files, path: &str, buf: &mut [u8]) -> usize
-    ensures { IsPrefixLen result buf.new }
-{
-    match fs::open(files, path) {
-        Ok(mut file) => input::read_full(&mut file, buf),
-        Err(_) => 0,
+fn report(rt: &impl Print, cases: u32, differing: Option<usize>) -> io::Result<()> {
+    match differing {
+        None => println!(rt; "{cases} cases, 0 differ"),
+        Some(k) => println!(rt; "case {k} differs"),
     }
 }
 
-// Replays the sample in a file.
+// Replays the sample in a file; nothing stands in one that can't be opened.
 fn replay(
     rt: &(impl Files + Print),
     path: &str,
     bytes: &mut [u8],
     room: &mut [u8],
 ) -> io::Result<()> {
-    let n = load(rt, path, bytes);
-    let sample = &bytes[..n];
+    let sample = input::load(rt, path, bytes).unwrap_or(&[]);
     report(rt, cases_in(sample), first_differing(sample, room))
 }
 
@@ -370,37 +285,35 @@ fn is_record(settings: Settings, record: &[u8]) -> bool
     words::same(&bytes, record)
 }
 
-// The number of the first of TIGHT, OPEN and EXPORT that is not the documents' record with byte 21; 0 for none, as it is proved to be.
-fn first_other_constant() -> u32
-    ensures { result ≡ 0 }
+// The documents' records of TIGHT, OPEN and EXPORT, with byte 21.
+static CONSTANTS: [[u8; 22]; 3] = [
+    [
+        0, 0, 0, 0, 0, 0, 0, 0, 0, 0, 0, 0, 0, 0, 0, 0, 0, 0, 0, 0, 0, 0,
+    ],
+    [
+        2, 4, 1, 1, 1, 1, 1, 1, 2, 2, 2, 2, 1, 2, 2, 0, 1, 1, 1, 1, 1, 0,
+    ],
+    [
+        0, 0, 0, 0, 0, 0, 0, 0, 0, 0, 0, 0, 0, 0, 0, 0, 0, 0, 0, 0, 0, 1,
+    ],
+];
+
+// The place of the first of TIGHT, OPEN and EXPORT that is not the documents' record: there is none, as it is proved.
+fn first_other_constant() -> Option<usize>
+    ensures { result ≡ None }
 {
-    if !is_record(
-        Settings::tight(),
-        b"\x00\x00\x00\x00\x00\x00\x00\x00\x00\x00\x00\x00\x00\x00\x00\x00\x00\x00\x00\x00\x00\x00",
-    ) {
-        return 1;
-    }
-    if !is_record(
-        Settings::open(),
-        b"\x02\x04\x01\x01\x01\x01\x01\x01\x02\x02\x02\x02\x01\x02\x02\x00\x01\x01\x01\x01\x01\x00",
-    ) {
-        return 2;
-    }
-    if !is_record(
-        Settings::export(),
-        b"\x00\x00\x00\x00\x00\x00\x00\x00\x00\x00\x00\x00\x00\x00\x00\x00\x00\x00\x00\x00\x00\x01",
-    ) {
-        return 3;
-    }
-    0
+    [Settings::tight(), Settings::open(), Settings::export()]
+        .iter()
+        .zip(&CONSTANTS)
+        .position(|(settings, bytes)| !is_record(*settings, bytes))
 }
 
 // Replays all samples.
 fn replay_all(rt: &(impl Files + Print), bytes: &mut [u8], room: &mut [u8]) -> io::Result<()> {
-    replay(rt, "expressions.rec", bytes, room)?;
-    replay(rt, "units.rec", bytes, room)?;
-    replay(rt, "names.rec", bytes, room)?;
-    replay(rt, "states.rec", bytes, room)
+    for path in ["expressions.rec", "units.rec", "names.rec", "states.rec"] {
+        replay(rt, path, bytes, room)?;
+    }
+    Ok(())
 }
 
 // The same in two whole arrays: each is as long as its type says, and a proof need not write out a list of so many zeros.
@@ -416,5 +329,5 @@ fn main(rt: HostRuntime) -> io::Result<()> {
     let mut bytes = [0u8; 655360];
     let mut room = [0u8; 16384];
     replay_in(&rt, &mut bytes, &mut room)?;
-    report(&rt, 3, first_other_constant())
+    report(&rt, 3, first_other_constant().map(|k| k + 1))
 }

@@ -1,37 +1,15 @@
--- Laws of what fits: one part, and two parts one behind the other. Assumes nothing.
-use mathlib.Core.Path.{◌≡◌, refl, sym, ap, ◌∙◌}
-use mathlib.Core.Bool.{Bool, true, false}
+-- Laws of two parts one behind the other. Assumes nothing.
+use mathlib.Core.Path.{◌≡◌, sym, ap, ◌∙◌}
+use mathlib.Core.Bool.{true, false}
 use mathlib.Core.List.{List, [], ◌∷◌, ◌++◌}
-use Prim.Native.Nat.{ℕ, suc, ◌+◌, ◌-◌, ◌≤◌, ◌<◌}
+use Prim.Native.Nat.{ℕ, suc, ◌+◌, ◌≤◌}
 use native.Mathlib.Omega.{arith}
 use lib.ListN.{length, set, length-append}
 use lib.Seq.{sets}
 use lib.Dec.{leb}
-use borrow.Author.Tests.{le-leb, lt-leb, leb-true, leb-false}
+use borrow.Author.Tests.{leb-true, leb-false}
 use Rattle.room.specs.Room.{laid}
 use Rattle.room.proofs.Laid.{laid_fits, laid_out}
-
--- a length, and what is left of it behind a place
-pub fits_behind : (size at n : ℕ) → at ≤ size → leb n (size - at) ≡ leb (at + n) size
-fits_behind size at n h = go (leb n (size - at)) refl
-  where
-    go : (b : Bool) → leb n (size - at) ≡ b → b ≡ leb (at + n) size
-    go true e = let k = leb-true n (size - at) e in sym (le-leb (at + n) size (omega arith))
-    go false e = let k = leb-false n (size - at) e in sym (lt-leb (at + n) size (omega arith))
-
-pub fits_not : (size at n : ℕ) → size < at → false ≡ leb (at + n) size
-fits_not size at n h = sym (lt-leb (at + n) size (omega arith))
-
--- n and then m bytes: what is left of the size behind n, for m
-pub both_behind : (size at n m : ℕ) → n ≤ size → leb (at + m) (size - n) ≡ leb (at + (n + m)) size
-both_behind size at n m h = go (leb (at + m) (size - n)) refl
-  where
-    go : (b : Bool) → leb (at + m) (size - n) ≡ b → b ≡ leb (at + (n + m)) size
-    go true e = let k = leb-true (at + m) (size - n) e in sym (le-leb (at + (n + m)) size (omega arith))
-    go false e = let k = leb-false (at + m) (size - n) e in sym (lt-leb (at + (n + m)) size (omega arith))
-
-pub both_not : (size at n m : ℕ) → size < n → false ≡ leb (at + (n + m)) size
-both_not size at n m h = sym (lt-leb (at + (n + m)) size (omega arith))
 
 pub front_fits : (size at n m : ℕ) → leb (at + (n + m)) size ≡ true → at + n ≤ size
 front_fits size at n m e = let h = leb-true (at + (n + m)) size e in omega arith

@@ -1,13 +1,14 @@
--- Laws for the loops that store bytes, and for one byte. Assumes nothing.
+-- Laws for what stores bytes: a loop, the library's copy of a part, and one byte. Assumes nothing.
 use mathlib.Core.Path.{◌≡◌, refl, sym, ap, ◌∙◌}
 use mathlib.Core.Bool.{Bool, true, false}
-use mathlib.Core.List.{List, [], ◌∷◌, ◌++◌}
-use Prim.Native.Nat.{ℕ, suc, ◌+◌, ◌-◌, ◌≤◌, ◌<◌}
+use mathlib.Core.List.{List, [], ◌∷◌, ◌++◌, append_assoc}
+use Prim.Native.Nat.{ℕ, suc, ◌+◌, ◌≤◌, ◌<◌}
 use native.Mathlib.Omega.{arith}
 use native.Mathlib.Numerals.{add-one}
-use lib.ListN.{length, get_or, take, drop, set, replicate, drop_of_length-le, length-append, get_or-append}
-use lib.Seq.{sets, sets-eq, drop-cons, length-take-le, get_or-append-add, set-get_or}
+use lib.ListN.{length, get_or, take, drop, set, drop_of_length-le, length-append, get_or-append}
+use lib.Seq.{sets, sets-eq, drop-cons, drop-drop, length-take-le, get_or-append-add, set-get_or}
 use lib.Dec.{ltb}
+use borrow.Rule.Slice.PartMut.{put_mid}
 use borrow.Author.Tests.{ltb-true, ltb-false}
 use Rattle.room.specs.Room.{laid}
 use Rattle.room.proofs.Laid.{laid_fits, laid_out}
@@ -24,12 +25,6 @@ module _ (room : List ℕ) {goal : List ℕ} (at j : ℕ) where
 
 pub next_of : (src : List ℕ) (j : ℕ) → j < length src → drop j src ≡ get_or src j 0 ∷ drop (j + 1) src
 next_of src j h = drop-cons src j 0 h ∙ ap (λ (n : ℕ). get_or src j 0 ∷ drop n src) (sym (add-one j))
-
-pub next_same : (b n j : ℕ) → j < n → replicate (n - j) b ≡ b ∷ replicate (n - (j + 1)) b
-next_same b n j h = let e : n - j ≡ suc (n - (j + 1)) = omega arith in ap (λ (k : ℕ). replicate k b) e
-
-pub none_same : (b n j : ℕ) → n ≤ j → replicate (n - j) b ≡ []
-none_same b n j h = let e : n - j ≡ 0 = omega arith in ap (λ (k : ℕ). replicate k b) e
 
 -- a byte that is stored again, where all stand
 module _ (room : List ℕ) (at : ℕ) (src : List ℕ) (fits : at + length src ≤ length room) where
@@ -59,6 +54,10 @@ module _ (room : List ℕ) (at : ℕ) (src : List ℕ) (fits : at + length src �
           ap (sets (set room₁ (at + k) (get_or src k 0)) (at + (i + 1))) (drop_of_length-le src {i = i + 1} (omega arith))
           ∙ ap (λ (l : List ℕ). set l (at + k) (get_or src k 0)) (stored_all room₁ at i (drop i src) (drop_of_length-le src {i = i} h) g)
           ∙ again k within
+
+-- bytes in the place of as many, as the library leaves them
+pub put_there : (room bs : List ℕ) (at k : ℕ) → at + length bs ≤ length room → k ≡ length bs → put_mid at k room bs ≡ sets room at bs
+put_there room bs at k h e = rw (e, drop-drop (length bs) at room) (sym (append_assoc (take at room) bs (drop (at + length bs) room)) ∙ sym (sets-eq bs room at h))
 
 -- one byte that fits, and one that does not
 pub laid_one : (room : List ℕ) (at b : ℕ) → at < length room → set room at b ≡ laid room at (b ∷ [])

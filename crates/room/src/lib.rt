@@ -1,4 +1,5 @@
-// Bytes in a lent room: laid all or not at all.
+// Bytes in a lent room: laid all or not at all. (A room and a place go side by side: the pen, which goes by value, has the place, and lends the room on. A struct of both
+// would be made anew for each token, and is no plainer. `copy` and `fill` take what is known to fit, as docs/DECISIONS.md has it, 21.)
 #![tactic(auto)]
 
 ghost use Rattle.std.specs.Prelude.{◌≡◌, [], ◌∷◌, ◌++◌, ◌+◌, ◌≤◌, ◌<◌, length, replicate, leb};
@@ -8,7 +9,8 @@ ghost use Rattle.room.specs.Room.{laid};
 // How many bytes are few: the loop over them has this constant length, so that it compiles to none.
 const FEW: usize = 8;
 
-// One byte, if it fits.
+// One byte, if it fits. (By `get_mut` it was tried, and the proof didn't close: what is written through it the library's contract does not tell.)
+#[tactic(auto, using(crate::proofs::Loops::laid_one, crate::proofs::Loops::laid_none))]
 pub fn store(room: &mut [u8], at: u32, byte: u8)
     ensures { room.new ≡ laid room.old at (byte ∷ []) }
 {
@@ -22,21 +24,7 @@ pub fn store(room: &mut [u8], at: u32, byte: u8)
 pub fn fits(size: usize, at: u32, n: usize) -> bool
     ensures { result ≡ leb (at + n) size }
 {
-    let place = at as usize;
-    if size < place {
-        return false;
-    }
-    n <= size - place
-}
-
-// The index i, or the last.
-fn or_last(i: usize, last: usize) -> usize
-    ensures { (result ≤ last) × (i ≤ last → result ≡ i) }
-{
-    if i < last {
-        return i;
-    }
-    last
+    (at as usize).checked_add(n).is_some_and(|end| end <= size)
 }
 
 // The bytes of `src` from `at` on, where they are few and known to fit: the last is stored again and again, instead of a branch on the length, which cannot be
@@ -46,54 +34,37 @@ fn copy_few(room: &mut [u8], at: usize, src: &[u8])
     ensures { room.new ≡ sets room.old at src.now }
 {
     let last = src.len() - 1;
-    let mut i: usize = 0;
-    while i < FEW {
-        let k = or_last(i, last);
+    for i in 0..FEW {
+        let k = i.min(last);
         room[at + k] = src[k];
-        i += 1;
-    }
-}
-
-// The bytes of `src` from `at` on, where they are known to fit.
-fn copy_many(room: &mut [u8], at: usize, src: &[u8])
-    requires { at + length src.now ≤ length room.old }
-    ensures { room.new ≡ sets room.old at src.now }
-{
-    let mut j = 0;
-    while j < src.len() {
-        room[at + j] = src[j];
-        j += 1;
     }
 }
 
 // The bytes of `src` from `at` on, where they are known to fit. Most tokens have few.
+#[tactic(auto, using(crate::proofs::Loops::put_there))]
 pub fn copy(room: &mut [u8], at: usize, src: &[u8])
     requires { at + length src.now ≤ length room.old }
     ensures { room.new ≡ sets room.old at src.now }
 {
-    if FEW < src.len() {
-        copy_many(room, at, src);
-        return;
+    let n = src.len();
+    match n {
+        0 => {}
+        1..=FEW => copy_few(room, at, src),
+        _ => room[at..at + n].copy_from_slice(src),
     }
-    if src.len() == 0 {
-        return;
-    }
-    copy_few(room, at, src)
 }
 
 // n times a byte from `at` on, where they are known to fit.
+#[tactic(auto, using(crate::proofs::Loops::put_there))]
 pub fn fill(room: &mut [u8], at: usize, byte: u8, n: usize)
     requires { at + n ≤ length room.old }
     ensures { room.new ≡ sets room.old at (replicate n byte) }
 {
-    let mut j = 0;
-    while j < n {
-        room[at + j] = byte;
-        j += 1;
-    }
+    room[at..at + n].fill(byte);
 }
 
 // The bytes of `src`, if they fit.
+#[tactic(auto, using(crate::proofs::Laid::laid_fits, crate::proofs::Laid::laid_out))]
 pub fn lay(room: &mut [u8], at: u32, src: &[u8])
     ensures { room.new ≡ laid room.old at src.now }
 {
@@ -115,10 +86,7 @@ pub fn lay_run(room: &mut [u8], at: u32, byte: u8, n: usize)
 pub fn both_fit(size: usize, at: u32, n: usize, m: usize) -> bool
     ensures { result ≡ leb (at + (n + m)) size }
 {
-    if size < n {
-        return false;
-    }
-    fits(size - n, at, m)
+    n.checked_add(m).is_some_and(|both| fits(size, at, both))
 }
 
 // Two parts of one token, if both fit.

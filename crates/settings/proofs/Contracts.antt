@@ -3,6 +3,7 @@
 use mathlib.Core.Path.{◌≡◌, refl, sym, ◌∙◌}
 use mathlib.Core.List.{List}
 use Prim.Native.Nat.{ℕ}
+use Rattle.std.specs.Prelude.{Option}
 use base.Logic as Logic
 use contract.Lifetimes as Lifetimes
 use contract.Monad as Monad
@@ -11,7 +12,6 @@ use seplogic.Ra.Ura as Ura
 use prog.Memory as Memory
 use prog.Routine as Routine
 use Rattle.settings.specs.declared.Settings.{Settings}
-use Rattle.settings.specs.declared.SettingsRead.{SettingsRead}
 use Rattle.settings.specs.declared.FormattingState.{FormattingState}
 use Rattle.settings.specs.Settings.{settings_of, TIGHT, OPEN, EXPORT}
 use Rattle.settings.specs.Answer.{Reads}
@@ -28,7 +28,7 @@ use types.Logic.{Logic}
 module _ {M : Type 1} {𝓤 : Ura.Ura M} (𝓛 : Logic 𝓤) (mem : Memory.Memory → Logic.SProp 𝓤) (run : Routine.Routine → Monad.Fun 𝓤) where
   open Notation.connectives 𝓤 use {⌜◌⌝, ⊤ₛ}
 
-  pub read : (κs : Lifetimes.Lfts 1) (a : _) (g : _) (r : SettingsRead) (e : _)
+  pub read : (κs : Lifetimes.Lfts 1) (a : _) (g : _) (r : Option Settings) (e : _)
       → let c = Read.clauses 𝓛 mem run κs a in (c.requires g ≡ ⊤ₛ) × (c.ensures g r e ≡ ⌜ Reads a.0.now r ⌝)
   read κs a g r e = (refl, refl)
 
@@ -47,7 +47,7 @@ module _ {M : Type 1} {𝓤 : Ura.Ura M} (𝓛 : Logic 𝓤) (mem : Memory.Memor
   pub fresh_state : (κs : Lifetimes.Lfts 0) (a : _) (g : _) (r : FormattingState) (e : _) → let c = FreshState.clauses 𝓛 mem run κs a in (c.requires g ≡ ⊤ₛ) × (c.ensures g r e ≡ ⌜ r ≡ fresh ⌝)
   fresh_state κs a g r e = (refl, refl)
 
-pub read_unique : {bytes : List ℕ} {r s : SettingsRead} → Reads bytes r → Reads bytes s → r ≡ s
+pub read_unique : {bytes : List ℕ} {r s : Option Settings} → Reads bytes r → Reads bytes s → r ≡ s
 read_unique p q = p.answered ∙ sym q.answered
 
 -- of tight, open, export, to_bytes and fresh_state, whose promises are equations

@@ -3,8 +3,8 @@ use mathlib.Core.Path.{◌≡◌, refl}
 use mathlib.Core.Bool.{true, false}
 use mathlib.Core.List.{List, [], ◌∷◌, ◌++◌, map}
 use Prim.Native.Nat.{ℕ}
+use Rattle.std.specs.Prelude.{None, Some}
 use lib.ListN.{take, set}
-use Rattle.settings.specs.declared.SettingsRead.TheVariants as Answer
 use Rattle.settings.specs.Settings.{limits, in_range, settings_of, is_record, read_settings, TIGHT, OPEN, EXPORT}
 use Rattle.settings.specs.Answer.{settings_number}
 
@@ -16,7 +16,7 @@ tight_but k b = set TIGHT k b
 abbrev good : List (List ℕ)
 good = TIGHT ∷ OPEN ∷ EXPORT ∷ tight_but 1 16 ∷ (OPEN ++ 0 ∷ []) ∷ []
 
-pub good_read : map read_settings good ≡ map (λ (bs : List ℕ). Answer.Read (settings_of bs)) good
+pub good_read : map read_settings good ≡ map (λ (bs : List ℕ). Some (settings_of bs)) good
 unfolding read_settings is_record in_range limits
 good_read = refl
 
@@ -24,7 +24,7 @@ good_read = refl
 abbrev bad : List (List ℕ)
 bad = [] ∷ take 20 TIGHT ∷ (EXPORT ++ 0 ∷ []) ∷ tight_but 0 3 ∷ tight_but 1 17 ∷ tight_but 20 2 ∷ (TIGHT ++ 2 ∷ []) ∷ []
 
-pub bad_refused : map read_settings bad ≡ map (λ (bs : List ℕ). Answer.Refused) bad
+pub bad_refused : map read_settings bad ≡ map (λ (bs : List ℕ). None) bad
 unfolding read_settings is_record in_range limits
 bad_refused = refl
 

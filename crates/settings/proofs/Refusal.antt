@@ -3,17 +3,16 @@ use mathlib.Core.Path.{◌≡◌, refl, ap, ◌∙◌}
 use mathlib.Core.List.{List}
 use mathlib.Core.Bool.{Bool, true, false, cond}
 use Prim.Native.Nat.{ℕ}
+use Rattle.std.specs.Prelude.{Option, None, Some}
 use Rattle.settings.specs.declared.Settings.{Settings}
-use Rattle.settings.specs.declared.SettingsRead.{SettingsRead}
-use Rattle.settings.specs.declared.SettingsRead.TheVariants as Answer
 use Rattle.settings.specs.Settings.{is_record, settings_of, read_settings}
 use Rattle.settings.specs.Answer.{settings_number, settings_place, Reads}
 
-number_by : (good : Bool) (s : Settings) → settings_number (cond good (Answer.Read s) Answer.Refused) ≡ cond good 0 1
+number_by : (good : Bool) (s : Settings) → settings_number (cond good (Some s) None) ≡ cond good 0 1
 number_by true s = refl
 number_by false s = refl
 
-place_by : (good : Bool) (s : Settings) → settings_place (cond good (Answer.Read s) Answer.Refused) ≡ 0
+place_by : (good : Bool) (s : Settings) → settings_place (cond good (Some s) None) ≡ 0
 place_by true s = refl
 place_by false s = refl
 
@@ -25,5 +24,5 @@ place_of : (bs : List ℕ) → settings_place (read_settings bs) ≡ 0
 unfolding read_settings
 place_of bs = place_by (is_record bs) (settings_of bs)
 
-pub reads : (bs : List ℕ) (r : SettingsRead) → r ≡ read_settings bs → Reads bs r
+pub reads : (bs : List ℕ) (r : Option Settings) → r ≡ read_settings bs → Reads bs r
 reads bs r e = record { answered = e; numbered = ap settings_number e ∙ number_of bs; placed = ap settings_place e ∙ place_of bs }

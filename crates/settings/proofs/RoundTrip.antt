@@ -3,6 +3,7 @@ use mathlib.Core.Path.{◌≡◌, refl}
 use mathlib.Core.List.{List, [], ◌∷◌, ◌++◌}
 use mathlib.Core.Bool.{Bool, true, false, cond, and-eq-true_iff}
 use Prim.Native.Nat.{ℕ, zero, suc, ◌≤◌, ◌-◌}
+use Rattle.std.specs.Prelude.{Some}
 use native.Mathlib.Nat.{sub-zero, suc-sub-suc}
 use native.Mathlib.Omega.{arith}
 use lib.ListN.{length, get_or, replicate}
@@ -13,7 +14,6 @@ use Rattle.settings.specs.declared.IndentStyle.TheVariants as Indent
 use Rattle.settings.specs.declared.Whitespace.{Whitespace}
 use Rattle.settings.specs.declared.Whitespace.TheVariants as White
 use Rattle.settings.specs.declared.Settings.{Settings}
-use Rattle.settings.specs.declared.SettingsRead.TheVariants as Answer
 use Rattle.settings.specs.Settings.{limits, in_range, style_of, flag_of, whitespace_of, settings_of, fewest_bytes, is_record, read_settings, TIGHT, OPEN, EXPORT}
 use Rattle.settings.specs.Bytes.{style_byte, flag_byte, whitespace_byte, settings_bytes}
 
@@ -114,7 +114,7 @@ pub settings_in_range : (s : Settings) → s.count ≤ 16 → is_record (setting
 unfolding settings_bytes is_record limits in_range
 settings_in_range s h = simp (style_low, flag_low, white_low, le-leb s.count 16 h)
 
-pub read_again : (s : Settings) → s.count ≤ 16 → read_settings (settings_bytes s) ≡ Answer.Read s
+pub read_again : (s : Settings) → s.count ≤ 16 → read_settings (settings_bytes s) ≡ Some s
 unfolding read_settings
 read_again s h = simp (settings_in_range s h, settings_again s)
 

@@ -4,21 +4,25 @@ use mathlib.Core.Bool.{Bool, ◌&&◌}
 use mathlib.Core.List.{List, [], ◌∷◌, ◌++◌}
 use Prim.Native.Nat.{ℕ, zero, suc, ◌<◌}
 use native.Mathlib.Omega.{arith}
-use lib.ListN.{length, get_or, length-append}
+use lib.ListN.{length, get_or, length-append, replicate}
 use lib.Dec.{leb}
 use borrow.Author.Tests.{le-leb}
 use Rattle.settings.specs.Settings.{limits, in_range, fewest_bytes, is_record, settings_of, read_settings}
 
 -- a byte that is not there counts as 0
-byte_same : (bs : List ℕ) (k : ℕ) → get_or (bs ++ 0 ∷ []) k 0 ≡ get_or bs k 0
-byte_same [] zero = refl
-byte_same [] (suc k) = refl
-byte_same (b ∷ bs) zero = refl
-byte_same (b ∷ bs) (suc k) = byte_same bs k
+byte_same : (bs : List ℕ) (n k : ℕ) → get_or (bs ++ replicate n 0) k 0 ≡ get_or bs k 0
+byte_same [] zero k = refl
+byte_same [] (suc n) zero = refl
+byte_same [] (suc n) (suc k) = byte_same [] n k
+byte_same (b ∷ bs) n zero = refl
+byte_same (b ∷ bs) n (suc k) = byte_same bs n k
+
+pub settings_of_more : (bs : List ℕ) (n : ℕ) → settings_of (bs ++ replicate n 0) ≡ settings_of bs
+unfolding settings_of
+settings_of_more bs n = simp (byte_same bs n)
 
 pub settings_same : (bs : List ℕ) → settings_of (bs ++ 0 ∷ []) ≡ settings_of bs
-unfolding settings_of
-settings_same bs = simp (byte_same bs)
+settings_same bs = settings_of_more bs 1
 
 range_same : (bs ms : List ℕ) → length bs < length ms → in_range (bs ++ 0 ∷ []) ms ≡ in_range bs ms
 unfolding in_range

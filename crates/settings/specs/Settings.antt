@@ -1,12 +1,10 @@
 -- The settings record: 21 or 22 bytes, each in range (01, "Settings record"; 02, #106). Assumes nothing.
-use Rattle.std.specs.Prelude.{Bool, true, false, ◌&&◌, cond, List, [], ◌∷◌, ◌++◌, ℕ, length, get_or, leb, eqb}
+use Rattle.std.specs.Prelude.{Bool, true, false, ◌&&◌, cond, List, [], ◌∷◌, ◌++◌, ℕ, length, get_or, leb, eqb, Option, None, Some}
 use Rattle.settings.specs.declared.IndentStyle.{IndentStyle}
 use Rattle.settings.specs.declared.IndentStyle.TheVariants as Indent
 use Rattle.settings.specs.declared.Whitespace.{Whitespace}
 use Rattle.settings.specs.declared.Whitespace.TheVariants as White
 use Rattle.settings.specs.declared.Settings.{Settings}
-use Rattle.settings.specs.declared.SettingsRead.{SettingsRead}
-use Rattle.settings.specs.declared.SettingsRead.TheVariants as Answer
 
 -- the highest value of a style, a count, a flag, a whitespace
 abbrev pub last_style : ℕ
@@ -83,8 +81,8 @@ settings_of bs = record {
 }
 
 -- the answer to a record, and to any other bytes (refusal 1)
-unfoldable pub read_settings : List ℕ → SettingsRead
-read_settings bs = cond (is_record bs) (Answer.Read (settings_of bs)) Answer.Refused
+unfoldable pub read_settings : List ℕ → Option Settings
+read_settings bs = cond (is_record bs) (Some (settings_of bs)) None
 
 -- 01: TIGHT and OPEN, byte for byte
 abbrev pub TIGHT : List ℕ

@@ -1,29 +1,71 @@
 // The settings of the text, and the state that goes with them: 000's IndentStyle, Whitespace, FormattingSettings and FormattingState.
-#![tactic(auto)]
+#![tactic(auto, unfolding(crate::specs::Settings::style_of, crate::specs::Settings::whitespace_of, crate::specs::Settings::settings_of, crate::specs::Bytes::settings_bytes))]
 
-ghost use Rattle.std.specs.Prelude.{◌≡◌, ◌≤◌, length, get_or};
+ghost use Rattle.std.specs.Prelude.{◌≡◌};
 ghost use Rattle.settings.specs.Answer.{Reads};
-ghost use Rattle.settings.specs.Bytes.{style_byte, flag_byte, whitespace_byte, settings_bytes};
-ghost use Rattle.settings.specs.Settings.{fewest_bytes, in_range, style_of, flag_of, whitespace_of, settings_of, TIGHT, OPEN, EXPORT};
+ghost use Rattle.settings.specs.Bytes.{style_byte, whitespace_byte, settings_bytes};
+ghost use Rattle.settings.specs.Settings.{in_range, style_of, whitespace_of, settings_of, TIGHT, OPEN, EXPORT};
 ghost use Rattle.settings.specs.State.{fresh};
 
 // What a level is indented with. (000 keeps the count in here; a record may give a count without a style, so it is a field beside. 000's tab_size is never read.)
-#[derive(Clone, Copy)]
+#[derive(Clone, Copy, Debug, PartialEq, Eq)]
 pub enum IndentStyle {
-    None,
-    Tabs,
-    Spaces,
+    None = 0,
+    Tabs = 1,
+    Spaces = 2,
 }
 
-#[derive(Clone, Copy)]
+#[derive(Clone, Copy, Debug, PartialEq, Eq)]
 pub enum Whitespace {
-    None,
-    Space,
-    Newline,
+    None = 0,
+    Space = 1,
+    Newline = 2,
+}
+
+// What a byte of a record says; above its limit, what the limit does.
+impl From<u8> for IndentStyle {
+    ghost from_gives = { λ byte style. style ≡ style_of byte };
+
+    fn from(byte: u8) -> IndentStyle {
+        match byte {
+            0 => IndentStyle::None,
+            1 => IndentStyle::Tabs,
+            _ => IndentStyle::Spaces,
+        }
+    }
+}
+
+impl From<u8> for Whitespace {
+    ghost from_gives = { λ byte white. white ≡ whitespace_of byte };
+
+    fn from(byte: u8) -> Whitespace {
+        match byte {
+            0 => Whitespace::None,
+            1 => Whitespace::Space,
+            _ => Whitespace::Newline,
+        }
+    }
+}
+
+// The byte that says it.
+impl From<IndentStyle> for u8 {
+    ghost from_gives = { λ style byte. byte ≡ style_byte style };
+
+    fn from(style: IndentStyle) -> u8 {
+        style as u8
+    }
+}
+
+impl From<Whitespace> for u8 {
+    ghost from_gives = { λ white byte. byte ≡ whitespace_byte white };
+
+    fn from(white: Whitespace) -> u8 {
+        white as u8
+    }
 }
 
 // A field for each byte of the settings record, in its order, under the names of 000; the last is not of 000.
-#[derive(Clone, Copy)]
+#[derive(Clone, Copy, Debug, PartialEq, Eq)]
 pub struct Settings {
     pub indent_style: IndentStyle,
     pub count: u8,
@@ -50,15 +92,8 @@ pub struct Settings {
     pub spaces_where_needed: bool,
 }
 
-// The answer to bytes that are asked to be a settings record. specs/Answer.antt gives 01's number of each case.
-#[derive(Clone, Copy)]
-pub enum SettingsRead {
-    Read(Settings),
-    Refused,
-}
-
 // The state of the line layout. 000's holds the settings too, which go beside it here, and two fields that only directives use, which come with request #101.
-#[derive(Clone, Copy)]
+#[derive(Clone, Copy, Debug, PartialEq, Eq)]
 pub struct FormattingState {
     pub indentation_level: u16,
     pub new_line_pending: bool,
@@ -78,7 +113,7 @@ const WHITE: u8 = 2;
 const FEWEST_BYTES: usize = 21;
 
 // The highest value of each byte of a settings record, in the order of the fields.
-const LIMITS: [u8; 22] = [
+static LIMITS: [u8; 22] = [
     STYLE,
     WIDEST_INDENT,
     FLAG,
@@ -107,80 +142,7 @@ const LIMITS: [u8; 22] = [
 fn in_range(bytes: &[u8], limits: &[u8]) -> bool
     ensures { result ≡ in_range bytes.now limits.now }
 {
-    if limits.len() < bytes.len() {
-        return false;
-    }
-    let mut k = 0;
-    while k < bytes.len() {
-        if limits[k] < bytes[k] {
-            return false;
-        }
-        k += 1;
-    }
-    true
-}
-
-fn style_of(byte: u8) -> IndentStyle
-    ensures { result ≡ style_of byte }
-{
-    if byte == 0 {
-        return IndentStyle::None;
-    }
-    if byte == 1 {
-        return IndentStyle::Tabs;
-    }
-    IndentStyle::Spaces
-}
-
-fn whitespace_of(byte: u8) -> Whitespace
-    ensures { result ≡ whitespace_of byte }
-{
-    if byte == 0 {
-        return Whitespace::None;
-    }
-    if byte == 1 {
-        return Whitespace::Space;
-    }
-    Whitespace::Newline
-}
-
-// The flag at a place; behind the end there is none.
-fn flag_at(bytes: &[u8], k: usize) -> bool
-    ensures { result ≡ flag_of (get_or bytes.now k 0) }
-{
-    if bytes.len() <= k {
-        return false;
-    }
-    bytes[k] == 1
-}
-
-fn style_byte(style: IndentStyle) -> u8
-    ensures { result ≡ style_byte style }
-{
-    match style {
-        IndentStyle::None => 0,
-        IndentStyle::Tabs => 1,
-        IndentStyle::Spaces => 2,
-    }
-}
-
-fn flag_byte(flag: bool) -> u8
-    ensures { result ≡ flag_byte flag }
-{
-    if flag {
-        return 1;
-    }
-    0
-}
-
-fn whitespace_byte(white: Whitespace) -> u8
-    ensures { result ≡ whitespace_byte white }
-{
-    match white {
-        Whitespace::None => 0,
-        Whitespace::Space => 1,
-        Whitespace::Newline => 2,
-    }
+    bytes.len() <= limits.len() && bytes.iter().zip(limits).all(|(byte, limit)| byte <= limit)
 }
 
 impl Settings {
@@ -261,13 +223,12 @@ impl Settings {
         Settings::EXPORT
     }
 
-    // The settings that a record says. Only `read` calls it, after the tests of length and range.
-    fn of(bytes: &[u8]) -> Settings
-        requires { fewest_bytes ≤ length bytes.now }
-        ensures { result ≡ settings_of bytes.now }
+    // The settings that a record of 22 bytes says, by place as docs/RECORDS.md numbers them: a pattern that names each byte would make this longer than 40 lines.
+    fn of(bytes: [u8; 22]) -> Settings
+        ensures { result ≡ settings_of bytes }
     {
         Settings {
-            indent_style: style_of(bytes[0]),
+            indent_style: IndentStyle::from(bytes[0]),
             count: bytes[1],
             space_before_open_block: bytes[2] == 1,
             newline_after_open_block: bytes[3] == 1,
@@ -275,72 +236,63 @@ impl Settings {
             newline_after_close_block: bytes[5] == 1,
             newline_after_collapsed_statement: bytes[6] == 1,
             newline_before_collapsed_statement: bytes[7] == 1,
-            struct_field_separator: whitespace_of(bytes[8]),
-            struct_declaration_terminator: whitespace_of(bytes[9]),
-            declaration_terminator: whitespace_of(bytes[10]),
-            case_label_terminator: whitespace_of(bytes[11]),
+            struct_field_separator: Whitespace::from(bytes[8]),
+            struct_declaration_terminator: Whitespace::from(bytes[9]),
+            declaration_terminator: Whitespace::from(bytes[10]),
+            case_label_terminator: Whitespace::from(bytes[11]),
             spaces_around_binary_ops: bytes[12] == 1,
-            statement_terminator: whitespace_of(bytes[13]),
-            function_definition_terminator: whitespace_of(bytes[14]),
+            statement_terminator: Whitespace::from(bytes[13]),
+            function_definition_terminator: Whitespace::from(bytes[14]),
             collapse_single_item_compound_statements: bytes[15] == 1,
             space_before_else: bytes[16] == 1,
             space_after_list_separator: bytes[17] == 1,
             space_after_for_statement_separator: bytes[18] == 1,
             spaces_surrounding_initializer_list_expressions: bytes[19] == 1,
             spaces_surrounding_statement_parentheses: bytes[20] == 1,
-            spaces_where_needed: flag_at(bytes, 21),
+            spaces_where_needed: bytes[21] == 1,
         }
     }
 
-    // Reads a settings record.
-    pub fn read(bytes: &[u8]) -> SettingsRead
+    // Reads a settings record; of other bytes there are none (refusal 1 of 01, by specs/Answer.antt).
+    pub fn read(bytes: &[u8]) -> Option<Settings>
         ensures { Reads bytes.now result }
     {
-        if bytes.len() < FEWEST_BYTES {
-            return SettingsRead::Refused;
+        if bytes.len() < FEWEST_BYTES || !in_range(bytes, &LIMITS) {
+            return None;
         }
-        // Lent as a local: indexed in place, the constant would be rebuilt at every step.
-        let limits = LIMITS;
-        if in_range(bytes, &limits) {
-            return SettingsRead::Read(Settings::of(bytes));
-        }
-        SettingsRead::Refused
+        // A byte that is not there counts as 0.
+        let mut whole = [0; 22];
+        whole[..bytes.len()].copy_from_slice(bytes);
+        Some(Settings::of(whole))
     }
 
     // The settings record that says these settings: `read` reads them from it, if the count is at most 16.
     pub fn to_bytes(self) -> [u8; 22]
         ensures { result ≡ settings_bytes self }
     {
-        let indent_style = self.indent_style;
-        let struct_field_separator = self.struct_field_separator;
-        let struct_declaration_terminator = self.struct_declaration_terminator;
-        let declaration_terminator = self.declaration_terminator;
-        let case_label_terminator = self.case_label_terminator;
-        let statement_terminator = self.statement_terminator;
-        let function_definition_terminator = self.function_definition_terminator;
         [
-            style_byte(indent_style),
+            u8::from(self.indent_style),
             self.count,
-            flag_byte(self.space_before_open_block),
-            flag_byte(self.newline_after_open_block),
-            flag_byte(self.newline_before_close_block),
-            flag_byte(self.newline_after_close_block),
-            flag_byte(self.newline_after_collapsed_statement),
-            flag_byte(self.newline_before_collapsed_statement),
-            whitespace_byte(struct_field_separator),
-            whitespace_byte(struct_declaration_terminator),
-            whitespace_byte(declaration_terminator),
-            whitespace_byte(case_label_terminator),
-            flag_byte(self.spaces_around_binary_ops),
-            whitespace_byte(statement_terminator),
-            whitespace_byte(function_definition_terminator),
-            flag_byte(self.collapse_single_item_compound_statements),
-            flag_byte(self.space_before_else),
-            flag_byte(self.space_after_list_separator),
-            flag_byte(self.space_after_for_statement_separator),
-            flag_byte(self.spaces_surrounding_initializer_list_expressions),
-            flag_byte(self.spaces_surrounding_statement_parentheses),
-            flag_byte(self.spaces_where_needed),
+            u8::from(self.space_before_open_block),
+            u8::from(self.newline_after_open_block),
+            u8::from(self.newline_before_close_block),
+            u8::from(self.newline_after_close_block),
+            u8::from(self.newline_after_collapsed_statement),
+            u8::from(self.newline_before_collapsed_statement),
+            u8::from(self.struct_field_separator),
+            u8::from(self.struct_declaration_terminator),
+            u8::from(self.declaration_terminator),
+            u8::from(self.case_label_terminator),
+            u8::from(self.spaces_around_binary_ops),
+            u8::from(self.statement_terminator),
+            u8::from(self.function_definition_terminator),
+            u8::from(self.collapse_single_item_compound_statements),
+            u8::from(self.space_before_else),
+            u8::from(self.space_after_list_separator),
+            u8::from(self.space_after_for_statement_separator),
+            u8::from(self.spaces_surrounding_initializer_list_expressions),
+            u8::from(self.spaces_surrounding_statement_parentheses),
+            u8::from(self.spaces_where_needed),
         ]
     }
 

@@ -1,84 +1,93 @@
--- How the code's constant table is read, and what it must say: the definitions of Class and Shape, for every kind, variant and class. It has three
--- sections: a head of 2 bytes for each kind, rows of 8 bytes for a kind and a variant, rows of 8 bytes for the classes. Only promises between the
--- code's functions cite this file: those of the record check as a whole do not rest on it. Assumes nothing.
-use Rattle.std.specs.Prelude.{cond, List, [], ◌∷◌, ◌≡◌, ℕ, zero, suc, ◌+◌, ◌*◌, ◌/◌, ◌%◌, ◌<◌, ◌≤◌, eqb, get_or}
-use Rattle.shapes.specs.Class.{Class, Allowed, allowed}
-use Rattle.shapes.specs.Class.Class.{expr, callee, type, base, array, dimension, field, identifier, parameter_identifier, qualifier, spec, precision, layout_id, full_type, prototype, parameter, declarators, single, declarator, initializer, block, declaration, compound, statement, condition, for_init, external, unit}
-use Rattle.shapes.specs.Shape.{Fields, Count, Part, Shape, last_variant, shape_of}
+-- How the code's types are read: as the classes, shapes and rows of Class and Shape, one by one. Only promises between the code's functions cite this file: those
+-- of the record check as a whole do not rest on it. Assumes nothing.
+use Rattle.std.specs.Prelude.{ℕ, ◌+◌, ◌-◌, map, take, drop, get_or}
+use Rattle.shapes.specs.declared.Class.{Class as Asked}
+use Rattle.shapes.specs.declared.Class.TheVariants as Ask
+use Rattle.shapes.specs.declared.Allowed.{Allowed as AllowedRow}
+use Rattle.shapes.specs.declared.Fields.{Fields as FieldsCode}
+use Rattle.shapes.specs.declared.Fields.TheVariants as Holds
+use Rattle.shapes.specs.declared.Count.{Count as CountCode}
+use Rattle.shapes.specs.declared.Count.TheVariants as Counts
+use Rattle.shapes.specs.declared.Part.{Part as PartCode}
+use Rattle.shapes.specs.declared.Part.TheVariants as Parts
+use Rattle.shapes.specs.declared.Shape.{Shape as ShapeRow}
+use Rattle.shapes.specs.declared.Kind.{Kind}
+use Rattle.shapes.specs.declared.Row.{Row}
+use Rattle.shapes.specs.declared.TheConstants.{UNLISTED}
+use Rattle.shapes.specs.declared.rows.TheConstants.{PARTS, ROWS, KINDS}
+use Rattle.shapes.specs.Class.{Class, Allowed}
+use Rattle.shapes.specs.Shape.{Fields, Count, Part, Shape}
 
--- where the rows and the rows of the classes begin, and where the table ends
-abbrev pub first_row : ℕ
-first_row = 512
+abbrev pub class_of : Asked → Class
+class_of Ask.Expr = Class.expr
+class_of Ask.Callee = Class.callee
+class_of Ask.Type = Class.type
+class_of Ask.Base = Class.base
+class_of Ask.Array = Class.array
+class_of Ask.Dimension = Class.dimension
+class_of Ask.Field = Class.field
+class_of Ask.Identifier = Class.identifier
+class_of Ask.ParameterIdentifier = Class.parameter_identifier
+class_of Ask.Qualifier = Class.qualifier
+class_of Ask.Spec = Class.spec
+class_of Ask.Precision = Class.precision
+class_of Ask.LayoutId = Class.layout_id
+class_of Ask.FullType = Class.full_type
+class_of Ask.Prototype = Class.prototype
+class_of Ask.Parameter = Class.parameter
+class_of Ask.Declarators = Class.declarators
+class_of Ask.Single = Class.single
+class_of Ask.Declarator = Class.declarator
+class_of Ask.Initializer = Class.initializer
+class_of Ask.Block = Class.block
+class_of Ask.Declaration = Class.declaration
+class_of Ask.Compound = Class.compound
+class_of Ask.Statement = Class.statement
+class_of Ask.Condition = Class.condition
+class_of Ask.ForInit = Class.for_init
+class_of Ask.External = Class.external
+class_of Ask.Unit = Class.unit
 
-abbrev pub first_class_row : ℕ
-first_class_row = 2272
+-- what a row of the places says
+abbrev pub allowed_in : AllowedRow → Allowed
+allowed_in a = record { low = a.low; high = a.high; also = a.also; least = a.least; most = a.most; declares = a.declares }
 
-abbrev pub cells : ℕ
-cells = 2528
+abbrev pub fields_of : FieldsCode → Fields
+fields_of Holds.Empty = Fields.empty
+fields_of Holds.Integer = Fields.integer
+fields_of Holds.Name = Fields.name
+fields_of Holds.Declared = Fields.declared
+fields_of Holds.Float = Fields.float
 
-abbrev pub row_size : ℕ
-row_size = 8
+abbrev pub count_of : CountCode → Count
+count_of Counts.Unused = Count.unused
+count_of Counts.Any = Count.any
+count_of Counts.Positive = Count.positive
 
--- how many parts a row has room for, and how many classes there may be
-abbrev pub most_parts : ℕ
-most_parts = 4
+abbrev pub part_of : PartCode → Part
+part_of (Parts.OneOf c) = Part.one_of (class_of c)
+part_of (Parts.Counted c) = Part.counted (class_of c)
 
-abbrev pub most_classes : ℕ
-most_classes = 32
+-- the children of a part: their class, and how many it stands for in a record that counts n
+abbrev pub part_class : PartCode → Class
+part_class (Parts.OneOf c) = class_of c
+part_class (Parts.Counted c) = class_of c
 
--- a byte of the table
-unfoldable pub cell : List ℕ → ℕ → ℕ
-cell t p = get_or t p 0
+abbrev pub times : PartCode → ℕ → ℕ
+times (Parts.OneOf c) n = 1
+times (Parts.Counted c) n = n
 
--- classes by number; the numbers that are left over are `unit` too
-unfoldable pub class_of : ℕ → Class
-class_of c = get_or (expr ∷ callee ∷ type ∷ base ∷ array ∷ dimension ∷ field ∷ identifier ∷ parameter_identifier ∷ qualifier ∷ spec ∷ precision ∷ layout_id ∷ full_type ∷ prototype ∷ parameter ∷ declarators ∷ single ∷ declarator ∷ initializer ∷ block ∷ declaration ∷ compound ∷ statement ∷ condition ∷ for_init ∷ external ∷ []) (c % most_classes) unit
+-- what a shape says
+abbrev pub shape_in : ShapeRow → Shape
+shape_in s = record { fields = fields_of s.fields; count = count_of s.count; parts = map part_of s.parts.now }
 
-abbrev pub class_row : ℕ → ℕ
-class_row c = first_class_row + row_size * (c % most_classes)
+-- where the code finds it: the kind's row, then that of its variant
+abbrev pub kind_at : ℕ → Kind
+kind_at k = get_or KINDS k UNLISTED
 
-unfoldable pub allowed_at : List ℕ → ℕ → Allowed
-allowed_at t c = record {
-  low = cell t (class_row c);
-  high = cell t (class_row c + 1);
-  also = cell t (class_row c + 2);
-  least = cell t (class_row c + 3);
-  most = cell t (class_row c + 4);
-  declares = eqb (cell t (class_row c + 5)) 1;
-}
+abbrev pub row_at : ℕ → ℕ → Row
+row_at k v = get_or ROWS ((kind_at k).first + v) (record { fields = Holds.Empty; count = Counts.Unused; first = 0; end = 0 })
 
--- the head of a kind: its last variant, and the row of its first
-abbrev pub last_at : List ℕ → ℕ → ℕ
-last_at t k = cell t (2 * k)
-
-abbrev pub row_at : List ℕ → ℕ → ℕ → ℕ
-row_at t k v = first_row + row_size * (cell t (2 * k + 1) + v)
-
--- a row: what a and b hold, what the count is, and the parts
-abbrev pub fields_of : ℕ → Fields
-fields_of x = get_or (Fields.empty ∷ Fields.integer ∷ Fields.name ∷ Fields.declared ∷ []) x Fields.float
-
-abbrev pub count_of : ℕ → Count
-count_of x = get_or (Count.unused ∷ Count.any ∷ []) x Count.positive
-
--- a part: its class, and 32 more for one child, 64 more for as many as the count says; 0 behind the last part
-abbrev pub part_of : ℕ → Part
-part_of x = cond (eqb (x / 32) 1) (Part.one_of (class_of x)) (Part.counted (class_of x))
-
--- how many children it stands for, in a record that counts n
-abbrev pub times : ℕ → ℕ → ℕ
-times x n = cond (eqb (x / 32) 1) 1 n
-
-unfoldable pub parts_at : List ℕ → ℕ → ℕ → List Part
-parts_at t zero p = []
-parts_at t (suc n) p = cond (eqb (cell t p) 0) [] (part_of (cell t p) ∷ parts_at t n (p + 1))
-
-unfoldable pub shape_at : List ℕ → ℕ → Shape
-shape_at t p = record { fields = fields_of (cell t p); count = count_of (cell t (p + 1)); parts = parts_at t most_parts (p + 2) }
-
--- a table that says what the definitions say
-pub record Shaped (t : List ℕ) : Type 0 where
-  pub classes : (c : ℕ) → allowed_at t c ≡ allowed (class_of c)
-  pub lasts : (k : ℕ) → k < 256 → last_at t k ≡ last_variant k
-  pub within : (k v : ℕ) → k < 256 → v ≤ last_variant k → row_at t k v + row_size ≤ first_class_row
-  pub shapes : (k v : ℕ) → k < 256 → v ≤ last_variant k → shape_at t (row_at t k v) ≡ shape_of k v
+-- what a row says
+abbrev pub row_in : Row → Shape
+row_in r = record { fields = fields_of r.fields; count = count_of r.count; parts = map part_of (take (r.end - r.first) (drop r.first PARTS)) }

@@ -1,76 +1,190 @@
-// The shapes of the records, by kind and variant, and what a place allows: document 01's table as constant bytes.
-// Whoever walks records makes the table once, `let t = shapes::table();`, and lends it down, `&t`: a constant array that is indexed in place would
-// be built anew at each use.
+// The shapes of the records, by kind and variant, and what a place allows: document 01's table, as constant rows.
 #![tactic(auto)]
 
-ghost use Rattle.std.specs.Prelude.{◌≡◌, ◌+◌, ◌<◌};
-ghost use Rattle.shapes.specs.Class.{takes_kind, takes_variant};
+ghost use Rattle.std.specs.Prelude.{◌≡◌, ◌≤◌, length};
+ghost use Rattle.shapes.specs.Class.{allowed, takes_kind, takes_variant};
+ghost use Rattle.shapes.specs.Shape.{last_variant, shape_of};
 ghost use Rattle.shapes.specs.Table as Table;
 
-pub mod rows;
+mod rows;
 
-use rows::{FIRST_CLASS, FIRST_ROW, Shapes, TABLE};
+use rows::{ALLOWED, KINDS, PARTS, ROWS};
 
-// The table, made once and lent from then on.
-pub fn table() -> Shapes
-    ensures { Table.Shaped result }
-{
-    TABLE
+const UNLISTED: Kind = Kind { last: 0, first: 0 };
+
+// What a place asks for (specs/Class).
+#[derive(Clone, Copy, Debug, PartialEq, Eq)]
+pub enum Class {
+    Expr,
+    Callee,
+    Type,
+    Base,
+    Array,
+    Dimension,
+    Field,
+    Identifier,
+    ParameterIdentifier,
+    Qualifier,
+    Spec,
+    Precision,
+    LayoutId,
+    FullType,
+    Prototype,
+    Parameter,
+    Declarators,
+    Single,
+    Declarator,
+    Initializer,
+    Block,
+    Declaration,
+    Compound,
+    Statement,
+    Condition,
+    ForInit,
+    External,
+    Unit,
 }
 
-// A byte of the table.
-pub fn cell(t: &Shapes, p: usize) -> u8
-    requires { p < Table.cells }
-    ensures { result ≡ Table.cell t.now p }
-{
-    t[p]
+// The kinds from `low` to `high` and one more, each in the variants from `least` to `most`, and whether a name there is declared.
+#[derive(Clone, Copy, Debug, PartialEq, Eq)]
+pub struct Allowed {
+    pub low: u8,
+    pub high: u8,
+    pub also: u8,
+    pub least: u8,
+    pub most: u8,
+    pub declares: bool,
 }
 
-// A byte as a number to count with.
-fn wide(x: u8) -> usize
-    ensures { (result ≡ x) × (result < 256) }
-{
-    x as usize
+// What the fields a and b hold: nothing, 32 bits in a, or a text in the form of a name, of one that is declared there, or of a float.
+#[derive(Clone, Copy, Debug, PartialEq, Eq)]
+pub enum Fields {
+    Empty,
+    Integer,
+    Name,
+    Declared,
+    Float,
 }
 
-// May kind k stand where class c is asked for?
-pub fn takes_kind(t: &Shapes, c: u8, k: u8) -> bool
-    ensures { result ≡ takes_kind (Table.allowed_at t.now c) k }
-{
-    let row = FIRST_CLASS + 8 * wide(c % 32);
-    let low = cell(t, row);
-    let high = cell(t, row + 1);
-    let also = cell(t, row + 2);
-    (low <= k) & (k <= high) | (k == also)
+// What the count is: 0, any number, or 1 and more.
+#[derive(Clone, Copy, Debug, PartialEq, Eq)]
+pub enum Count {
+    Unused,
+    Any,
+    Positive,
 }
 
-// May variant v stand where class c is asked for?
-pub fn takes_variant(t: &Shapes, c: u8, v: u8) -> bool
-    ensures { result ≡ takes_variant (Table.allowed_at t.now c) v }
-{
-    let row = FIRST_CLASS + 8 * wide(c % 32);
-    let least = cell(t, row + 3);
-    let most = cell(t, row + 4);
-    (least <= v) & (v <= most)
+// Children of one class: one of them, or as many as the count says.
+#[derive(Clone, Copy, Debug, PartialEq, Eq)]
+pub enum Part {
+    OneOf(Class),
+    Counted(Class),
 }
 
-// Is a name declared where class c is asked for?
-pub fn declares(t: &Shapes, c: u8) -> bool
-    ensures { result ≡ (Table.allowed_at t.now c).declares }
+// What the records of a kind and variant hold.
+#[derive(Clone, Copy)]
+pub struct Shape {
+    pub fields: Fields,
+    pub count: Count,
+    pub parts: &'static [Part],
+}
+
+// A shape as it is stored: its parts are those from `first` on up to `end`. (Tried: the parts themselves here. No proof can name a constant that holds slices, and none closed.)
+#[derive(Clone, Copy)]
+struct Row {
+    pub fields: Fields,
+    pub count: Count,
+    pub first: u8,
+    pub end: u8,
+}
+
+// Of a kind, its last variant, and the row of its first.
+#[derive(Clone, Copy)]
+struct Kind {
+    pub last: u8,
+    pub first: u16,
+}
+
+impl Class {
+    // What may stand where this is asked for.
+    #[tactic(auto, unfolding(crate::specs::Class::allowed))]
+    pub fn allowed(self) -> &'static Allowed
+        ensures { Table.allowed_in result.now ≡ allowed (Table.class_of self) }
+    {
+        &ALLOWED[self as usize]
+    }
+}
+
+impl Allowed {
+    // May kind k stand there?
+    pub fn takes_kind(&self, k: u8) -> bool
+        ensures { result ≡ takes_kind (Table.allowed_in self.now) k }
+    {
+        (self.low <= k) & (k <= self.high) | (k == self.also)
+    }
+
+    // May variant v stand there?
+    pub fn takes_variant(&self, v: u8) -> bool
+        ensures { result ≡ takes_variant (Table.allowed_in self.now) v }
+    {
+        (self.least <= v) & (v <= self.most)
+    }
+}
+
+impl Part {
+    // What its children are.
+    pub fn class(self) -> Class
+        ensures { Table.class_of result ≡ Table.part_class self }
+    {
+        match self {
+            Part::OneOf(class) => class,
+            Part::Counted(class) => class,
+        }
+    }
+
+    // How many children it stands for, in a record that counts n.
+    pub fn times(self, n: u16) -> usize
+        ensures { result ≡ Table.times self n }
+    {
+        match self {
+            Part::OneOf(_) => 1,
+            Part::Counted(_) => usize::from(n),
+        }
+    }
+}
+
+// What is said of kind k: nothing, if it is behind the last.
+fn kind_of(k: u8) -> Kind
+    ensures { result ≡ Table.kind_at k }
 {
-    cell(t, FIRST_CLASS + 8 * wide(c % 32) + 5) == 1
+    KINDS.get(usize::from(k)).copied().unwrap_or(UNLISTED)
 }
 
 // The last variant of kind k.
-pub fn last_variant(t: &Shapes, k: u8) -> u8
-    ensures { result ≡ Table.last_at t.now k }
+pub fn last_variant(k: u8) -> u8
+    ensures { result ≡ last_variant k }
 {
-    cell(t, 2 * wide(k))
+    kind_of(k).last
 }
 
-// Where the row of kind k and variant v begins.
-pub fn row_of(t: &Shapes, k: u8, v: u8) -> usize
-    ensures { (result ≡ Table.row_at t.now k v) × (result < 8192) }
+// The row of kind k and variant v.
+fn variant_row(k: u8, v: u8) -> Row
+    requires { v ≤ last_variant k }
+    ensures { result ≡ Table.row_at k v }
 {
-    FIRST_ROW + 8 * (wide(cell(t, 2 * wide(k) + 1)) + wide(v))
+    ROWS[usize::from(kind_of(k).first) + usize::from(v)]
+}
+
+// What the records of kind k and variant v hold.
+pub fn shape_of(k: u8, v: u8) -> Shape
+    requires { v ≤ last_variant k }
+    ensures says { Table.shape_in result ≡ shape_of k v }
+    ensures few { length result.parts.now ≤ 4 }
+{
+    let row = variant_row(k, v);
+    Shape {
+        fields: row.fields,
+        count: row.count,
+        parts: &PARTS[usize::from(row.first)..usize::from(row.end)],
+    }
 }

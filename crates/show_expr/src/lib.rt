@@ -2,28 +2,19 @@
 #![tactic(auto)]
 
 ghost use Rattle.std.specs.Prelude.{◌≡◌};
-ghost use Rattle.word_table.specs.Table as Table;
 ghost use Rattle.text.specs.Text.{show_expr};
 ghost use Rattle.text.specs.Reading as Reading;
-ghost use Rattle.leaves.specs.Shown.{Shows};
+ghost use Rattle.leaves.specs.Shown.{ShowsOf};
 
+use leaves::Source;
 use pen::Pen;
 use settings::Settings;
-use word_table::rows::Words;
 
 pub mod show;
 
 // 000 show_expr: an expression by itself is always bare.
-pub fn show_expr(
-    s: Settings,
-    t: &Words,
-    records: &[u8],
-    names: &[u8],
-    room: &mut [u8],
-    pen: Pen,
-) -> Pen
-    requires { t.now ≡ Table.table }
-    ensures { Shows show_expr Reading.expr s records.now names.now room.old pen room.new result }
+pub fn show_expr(src: &Source, room: &mut [u8], pen: Pen) -> Pen
+    ensures { ShowsOf show_expr Reading.expr src.now room.old pen room.new result }
 {
-    show::expr(s, t, records, names, room, pen, show::ANY)
+    show::expr(src, room, pen, show::ANY)
 }

@@ -2,96 +2,66 @@
 #![tactic(auto)]
 
 ghost use Rattle.std.specs.Prelude.{◌≡◌, true};
-ghost use Rattle.word_table.specs.Table as Table;
 ghost use Rattle.text.specs.Text.{show_compound_statement, show_external_declaration, show_translation_unit};
 ghost use Rattle.text.specs.Reading as Reading;
-ghost use Rattle.leaves.specs.Shown.{Shows};
+ghost use Rattle.leaves.specs.Shown.{ShowsOf};
 ghost use Rattle.show_simple.specs.Flushed.{behind_flush};
 ghost use Rattle.show_simple.specs.Parts.{function_definition};
 
+use leaves::Source;
 use pen::Pen;
-use settings::Settings;
+use records::kind::Kind;
 use show_statement::statement;
-use word_table::rows::Words;
 
 // 000 show_function_definition, behind its record.
-fn show_function_definition(
-    s: Settings,
-    t: &Words,
-    records: &[u8],
-    names: &[u8],
-    room: &mut [u8],
-    pen: Pen,
-) -> Pen
-    requires { t.now ≡ Table.table }
-    ensures { Shows (behind_flush (show_external_declaration s.collapse_single_item_compound_statements)) function_definition s records.now names.now room.old pen room.new result }
+fn show_function_definition(src: &Source, room: &mut [u8], pen: Pen) -> Pen
+    ensures { ShowsOf (behind_flush (show_external_declaration src.now.settings.collapse_single_item_compound_statements)) function_definition src.now room.old pen room.new result }
 {
-    let declared = show_declaration::show_function_prototype(s, t, records, names, room, pen);
+    let declared = show_declaration::show_function_prototype(src, room, pen);
     let entered = declared.enter_function_definition_statement();
-    let shown = show_body(s, t, records, names, room, entered);
-    let flushed = shown.flush_line(room, s);
-    flushed.write_function_definition_terminator(room, s)
+    let shown = show_body(src, room, entered);
+    let flushed = shown.flush_line(room, src.settings);
+    flushed.write_function_definition_terminator(room, src.settings)
 }
 
 // In show_function_definition: the body, which is never collapsed. What is no compound statement is a body without statements.
-fn show_body(s: Settings, t: &Words, records: &[u8], names: &[u8], room: &mut [u8], pen: Pen) -> Pen
-    requires { t.now ≡ Table.table }
-    ensures { Shows (show_compound_statement s.collapse_single_item_compound_statements true) Reading.compound s records.now names.now room.old pen room.new result }
+fn show_body(src: &Source, room: &mut [u8], pen: Pen) -> Pen
+    ensures { ShowsOf (show_compound_statement src.now.settings.collapse_single_item_compound_statements true) Reading.compound src.now room.old pen room.new result }
 {
-    let r = records::record_at(records, pen.next);
-    if r.kind != 60 {
-        return statement::show_function_body(s, t, records, names, room, pen, 0);
-    }
-    let inside = leaves::past(pen, records);
-    statement::show_function_body(s, t, records, names, room, inside, r.count)
+    let Some((r, inside)) = src.enter(pen, Kind::Compound) else {
+        return statement::show_function_body(src, room, pen, 0);
+    };
+    statement::show_function_body(src, room, inside, r.count)
 }
 
 // 000 show_external_declaration: what is none flushes all the same. (exit_external_declaration comes with directives.)
-fn show_external_declaration(
-    s: Settings,
-    t: &Words,
-    records: &[u8],
-    names: &[u8],
-    room: &mut [u8],
-    pen: Pen,
-) -> Pen
-    requires { t.now ≡ Table.table }
-    ensures { Shows (show_external_declaration s.collapse_single_item_compound_statements) Reading.external s records.now names.now room.old pen room.new result }
+fn show_external_declaration(src: &Source, room: &mut [u8], pen: Pen) -> Pen
+    ensures { ShowsOf (show_external_declaration src.now.settings.collapse_single_item_compound_statements) Reading.external src.now room.old pen room.new result }
 {
-    let entered = pen.enter_external_declaration(room, s);
-    let kind = records::kind_at(records, entered.next);
+    let entered = pen.enter_external_declaration(room, src.settings);
+    let Some(kind) = src.tree.kind(entered.next) else {
+        return entered;
+    };
     match kind {
-        47 => show_declaration::show_declaration(s, t, records, names, room, entered),
-        81 => {
-            let inside = leaves::past(entered, records);
-            show_function_definition(s, t, records, names, room, inside)
+        Kind::Declaration => show_declaration::show_declaration(src, room, entered),
+        Kind::FunctionDefinition => {
+            let inside = leaves::past(src, entered);
+            show_function_definition(src, room, inside)
         }
         _ => entered,
     }
 }
 
 // 000 show_translation_unit. A newline that is pending at the end is never written.
-pub fn show_translation_unit(
-    s: Settings,
-    t: &Words,
-    records: &[u8],
-    names: &[u8],
-    room: &mut [u8],
-    pen: Pen,
-) -> Pen
-    requires { t.now ≡ Table.table }
-    ensures { Shows (show_translation_unit s.collapse_single_item_compound_statements) Reading.unit s records.now names.now room.old pen room.new result }
+pub fn show_translation_unit(src: &Source, room: &mut [u8], pen: Pen) -> Pen
+    ensures { ShowsOf (show_translation_unit src.now.settings.collapse_single_item_compound_statements) Reading.unit src.now room.old pen room.new result }
 {
-    let r = records::record_at(records, pen.next);
-    if r.kind != 80 {
+    let Some((r, inside)) = src.enter(pen, Kind::TranslationUnit) else {
         return pen;
-    }
-    let inside = leaves::past(pen, records);
+    };
     let mut at = inside;
-    let mut left = r.count;
-    while 0 < left {
-        at = show_external_declaration(s, t, records, names, room, at);
-        left -= 1;
+    for _k in 0..r.count {
+        at = show_external_declaration(src, room, at);
     }
     at
 }

@@ -1,6 +1,6 @@
 -- The sign of the expression that is read at a record, by that record and the expression behind it, for any records; and how `first_sign` and `joins_at` find it. Assumes nothing.
 use mathlib.Core.Path.{◌≡◌, refl, sym, ◌∙◌, ap}
-use mathlib.Core.Bool.{Bool, true, false, cond}
+use mathlib.Core.Bool.{Bool, true, false, cond, not, ◌&&◌}
 use mathlib.Core.List.{List}
 use Prim.Native.Nat.{ℕ, zero, suc, ◌+◌, ◌-◌, ◌≤◌, ◌<◌}
 use native.Mathlib.Omega.{arith}
@@ -134,14 +134,18 @@ module _ (rs : List ℕ) (i op most : ℕ) where
   unfolding joins_with
   no_operator e ns = rw (eq-eqb op 0 e) refl
 
-  module _ (some : op ≡ 0 → ⊥) {k v q : ℕ} (ek : k ≡ (record_at rs i).kind) (ev : v ≡ (record_at rs i).variant) (eq : q ≡ precedence_of k v) where
+  -- an operand in parentheses begins with no sign
+  no_sign : (b : Bool) → false ≡ not b && b
+  no_sign true = refl
+  no_sign false = refl
+
+  module _ {k v q : ℕ} (ek : k ≡ (record_at rs i).kind) (ev : v ≡ (record_at rs i).variant) (eq : q ≡ precedence_of k v) where
     strength : (ns : List ℕ) → precedence (expr (from rs ns i)).tree ≡ q
     strength ns = binds rs ns i ∙ sym (rw (sym ek, sym ev) eq)
 
     pub in_parentheses : most < q → (ns : List ℕ) → false ≡ At ns
     unfolding joins_with
-    in_parentheses h ns = rw (ne_eqb op 0 some, strength ns, lt-leb q most h) (sym (ne_eqb op 0 some))
+    in_parentheses h ns = rw (strength ns, lt-leb q most h) (no_sign (eqb op 0))
 
-    pub by_sign : q ≤ most → {f : ℕ} → ((ns : List ℕ) → f ≡ SignAt rs i ns) → (ns : List ℕ) → eqb op f ≡ At ns
-    unfolding joins_with
-    by_sign h g ns = rw (ne_eqb op 0 some, strength ns, le-leb q most h, g ns) refl
+    pub by_sign : q ≤ most → {f : ℕ} → ((ns : List ℕ) → f ≡ SignAt rs i ns) → (ns : List ℕ) → joins_with op f ≡ At ns
+    by_sign h g ns = rw (strength ns, le-leb q most h, g ns) refl

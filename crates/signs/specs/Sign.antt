@@ -1,11 +1,13 @@
 -- The sign that the text of an expression begins with, from its records: it is the record's own, or that of the record behind it. That it is the tree's (text, specs/Joins, `sign`) is shown in
 -- proofs/Step; that an operator joins its operand exactly as `joins_with` has it, in proofs/Operators. Assumes nothing.
-use Rattle.std.specs.Prelude.{Bool, not, ◌&&◌, ◌||◌, cond, ℕ, ◌+◌, eqb, ltb}
+use Rattle.std.specs.Prelude.{Option, Some, None, Bool, not, ◌&&◌, ◌||◌, cond, ℕ, ◌+◌, eqb, ltb}
 use Prim.Native.Char.{code}
 use Rattle.decimal.specs.Decimal.{negative}
 use Rattle.records.specs.declared.Record.{Record}
 use Rattle.text.specs.Operator.{postfix_precedence, binary_precedence, ternary_precedence, assignment_precedence, comma_precedence}
 use Rattle.text.specs.Reading.{binary_op_of}
+use Rattle.signs.specs.declared.Sign.{Sign}
+use Rattle.signs.specs.declared.Sign.TheVariants.{Plus, Minus}
 
 -- the first operand of a record is bare if it binds below this (01, "Rules of the text"); 0 where the record has none, and for a callee, which is always bare. The kinds:
 -- Binary, Ternary, Assignment, Bracket, Dot, PostInc, PostDec, Comma.
@@ -21,6 +23,10 @@ first_below k v =
     (cond (eqb k 16) (comma_precedence + 1) 0)))))))
 
 -- a sign is its byte, and 0 is none
+abbrev pub byte_of : Option Sign → ℕ
+byte_of (Some Plus) = code "+"
+byte_of (Some Minus) = code "-"
+byte_of None = 0
 
 unfoldable pub unary_sign_of : (variant : ℕ) → ℕ
 unary_sign_of v = cond (eqb v 0) (code "+") (cond (eqb v 1) (code "-") (cond (eqb v 2) (code "+") (cond (eqb v 3) (code "-") 0)))

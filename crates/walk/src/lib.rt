@@ -1,25 +1,15 @@
 // The record check: whatever bytes come, they are the tree that a root asks for, or there is one numbered refusal at one place.
-// Crate accept tests a record by itself; here the records are walked, in preorder. Both go by the table of crate shapes, which is made once and lent down, and by the
-// table of words, which the caller lends: a print goes on with it.
+// Crate accept tests a record by itself; here the records are walked, in preorder. Both go by the shapes of crate shapes.
 #![tactic(auto)]
 
 ghost use Rattle.std.specs.Prelude.{◌≡◌};
-ghost use Rattle.word_table.specs.Table as WordTable;
-ghost use Rattle.shapes.specs.Class.{Class};
-ghost use Rattle.shapes.specs.Table as ShapeTable;
+ghost use Rattle.shapes.specs.Class.{Class as Asked};
+ghost use Rattle.shapes.specs.Table as Table;
 ghost use Rattle.accept.specs.Check as Check;
 
-use accept::{Checked, Refusal};
-use shapes::rows::Shapes;
-use word_table::rows::Words;
-
-// The classes of the two roots, by number.
-const EXPR: u8 = 0;
-
-const UNIT: u8 = 27;
-
-// The parts that a row of the table has room for.
-const PARTS: usize = 4;
+use accept::{Refusal, Refused};
+use records::Tree;
+use shapes::Class;
 
 const DEEPEST: usize = 200;
 
@@ -31,87 +21,28 @@ const MOST_NAME_BYTES: usize = 32768;
 
 // The tree whose root is record i.
 #[cycle(node_run)]
-fn node(
-    t: &Shapes,
-    words: &Words,
-    records: &[u8],
-    names: &[u8],
-    i: usize,
-    c: u8,
-    left: usize,
-) -> Checked
-    requires { (ShapeTable.Shaped t.now) × (words.now ≡ WordTable.table) }
-    ensures { result ≡ Check.node records.now names.now left (ShapeTable.class_of c) i }
+fn node(tree: &Tree, i: usize, class: Class, left: usize) -> Result<usize, Refused>
+    ensures { result ≡ Check.node tree.now.records.now tree.now.names.now left (Table.class_of class) i }
 {
-    let mut at = i;
-    match accept::alone(t, words, records, names, i, c, left) {
-        Checked::Next(next) => {
-            at = next;
-        }
-        Checked::Refused(x, p) => {
-            return Checked::Refused(x, p);
-        }
+    let mut at = accept::alone(tree, i, class, left)?;
+    let r = tree.record_at(i);
+    let shape = shapes::shape_of(r.kind, r.variant);
+    for part in shape.parts {
+        at = run(tree, at, part.class(), part.times(r.count), left - 1)?;
     }
-    let r = records::record_at(records, i);
-    let row = shapes::row_of(t, r.kind, r.variant);
-    let mut j: usize = 0;
-    while j < PARTS {
-        let part = shapes::cell(t, row + 2 + j);
-        if part == 0 {
-            return Checked::Next(at);
-        }
-        // a part's byte is its class too: classes are read modulo 32
-        match run(
-            t,
-            words,
-            records,
-            names,
-            at,
-            part,
-            accept::times(part, r.count),
-            left - 1,
-        ) {
-            Checked::Next(next) => {
-                at = next;
-            }
-            Checked::Refused(x, p) => {
-                return Checked::Refused(x, p);
-            }
-        }
-        j += 1;
-    }
-    Checked::Next(at)
+    Ok(at)
 }
 
-// n trees of class c, one behind the other.
+// n trees of a class, one behind the other.
 #[cycle(node_run)]
-fn run(
-    t: &Shapes,
-    words: &Words,
-    records: &[u8],
-    names: &[u8],
-    i: usize,
-    c: u8,
-    n: usize,
-    left: usize,
-) -> Checked
-    requires { (ShapeTable.Shaped t.now) × (words.now ≡ WordTable.table) }
-    ensures { result ≡ Check.nodes records.now names.now left (ShapeTable.class_of c) n i }
+fn run(tree: &Tree, i: usize, class: Class, n: usize, left: usize) -> Result<usize, Refused>
+    ensures { result ≡ Check.nodes tree.now.records.now tree.now.names.now left (Table.class_of class) n i }
 {
     let mut at = i;
-    let mut k: usize = 0;
-    while k < n {
-        match node(t, words, records, names, at, c, left) {
-            Checked::Next(next) => {
-                at = next;
-            }
-            Checked::Refused(x, p) => {
-                return Checked::Refused(x, p);
-            }
-        }
-        k += 1;
+    for _ in 0..n {
+        at = node(tree, at, class, left)?;
     }
-    Checked::Next(at)
+    Ok(at)
 }
 
 // Are the records none, not whole, or too many?
@@ -122,41 +53,34 @@ fn records_out_of_size(records: &[u8]) -> bool
     (n == 0) | (n % RECORD != 0) | (MOST_RECORD_BYTES < n)
 }
 
-// The whole, for a root of class c.
-fn check(words: &Words, records: &[u8], names: &[u8], c: u8) -> Checked
-    requires { words.now ≡ WordTable.table }
-    ensures { result ≡ Check.check records.now names.now (ShapeTable.class_of c) }
+// The whole, for a root of this class.
+#[tactic(auto, unfolding(accept::specs::Check::check))]
+fn check(tree: &Tree, class: Class) -> Result<usize, Refused>
+    ensures { result ≡ Check.check tree.now.records.now tree.now.names.now (Table.class_of class) }
 {
-    if records_out_of_size(records) {
-        return Checked::Refused(Refusal::RecordsOutOfSize, 0);
+    if records_out_of_size(tree.records) {
+        return Err(Refusal::RecordsOutOfSize.at(0));
     }
-    if MOST_NAME_BYTES < names.len() {
-        return Checked::Refused(Refusal::NamesOutOfSize, 0);
+    if MOST_NAME_BYTES < tree.names.len() {
+        return Err(Refusal::NamesOutOfSize.at(0));
     }
-    let t = shapes::table();
-    match node(&t, words, records, names, 0, c, DEEPEST) {
-        Checked::Next(next) => {
-            if next == records::whole_records(records) {
-                return Checked::Next(next);
-            }
-            Checked::Refused(Refusal::RecordsLeftOver, next)
-        }
-        Checked::Refused(x, p) => Checked::Refused(x, p),
+    let next = node(tree, 0, class, DEEPEST)?;
+    if next == records::whole_records(tree.records) {
+        return Ok(next);
     }
+    Err(Refusal::RecordsLeftOver.at(next))
 }
 
-// Are the records a unit? Its root is of kind 80.
-pub fn check_unit(words: &Words, records: &[u8], names: &[u8]) -> Checked
-    requires { words.now ≡ WordTable.table }
-    ensures { result ≡ Check.check records.now names.now Class.unit }
+// Are the records a unit? Its root is of kind 80. (The two roots by name; what they have in common is `check`.)
+pub fn check_unit(tree: &Tree) -> Result<usize, Refused>
+    ensures { result ≡ Check.check tree.now.records.now tree.now.names.now Asked.unit }
 {
-    check(words, records, names, UNIT)
+    check(tree, Class::Unit)
 }
 
 // Are the records an expression? Its root is of kind 1 to 16.
-pub fn check_expr(words: &Words, records: &[u8], names: &[u8]) -> Checked
-    requires { words.now ≡ WordTable.table }
-    ensures { result ≡ Check.check records.now names.now Class.expr }
+pub fn check_expr(tree: &Tree) -> Result<usize, Refused>
+    ensures { result ≡ Check.check tree.now.records.now tree.now.names.now Asked.expr }
 {
-    check(words, records, names, EXPR)
+    check(tree, Class::Expr)
 }

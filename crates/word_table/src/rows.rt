@@ -24,7 +24,7 @@ pub const SLOTS: usize = 4752;
 pub const FLAWS: usize = 5264;
 
 // A row a line: the text, blanks, and the text's length. Then the row for each slot, and the flaws of each byte.
-pub const TABLE: Words = *b"\
+pub static TABLE: Words = *b"\
     void                   \x04\
     bool                   \x04\
     int                    \x03\

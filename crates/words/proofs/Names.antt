@@ -1,8 +1,9 @@
 -- The form of a name: what each test of it decides. Assumes nothing.
 use mathlib.Core.Path.{◌≡◌}
-use mathlib.Core.Bool.{true, false, not, and-false}
+use mathlib.Core.Bool.{false, not, ◌&&◌, and_assoc, and-false}
 use mathlib.Core.List.{List}
 use Prim.Native.Nat.{ℕ, ◌≤◌, ◌<◌}
+use lib.Dec.{leb}
 use lib.ListN.{length, get_or}
 use borrow.Author.Tests.{le-leb, lt-leb}
 use Rattle.words.specs.Keyword.{fixed_words}
@@ -17,15 +18,9 @@ module _ (s : List ℕ) where
   unfolding name_form
   name_long h = simp (lt-leb (length s) longest_name h, and-false)
 
-  pub name_digit : digit (get_or s 0 0) ≡ true → name_form s ≡ false
+  -- where it has a byte: by the other tests, in their order
+  pub name_left :
+      1 ≤ length s
+      → name_form s ≡ leb (length s) longest_name && (not (digit (get_or s 0 0)) && (all name_byte s && not (one_of fixed_words s)))
   unfolding name_form
-  name_digit e = simp (e, and-false)
-
-  pub name_byte_lem : all name_byte s ≡ false → name_form s ≡ false
-  unfolding name_form
-  name_byte_lem e = simp (e, and-false)
-
-  -- behind the tests of its length and its bytes
-  pub name_left : 1 ≤ length s → length s ≤ longest_name → digit (get_or s 0 0) ≡ false → all name_byte s ≡ true → name_form s ≡ not (one_of fixed_words s)
-  unfolding name_form
-  name_left h l d e = simp (le-leb 1 (length s) h, le-leb (length s) longest_name l, d, e)
+  name_left h = simp (le-leb 1 (length s) h, and_assoc)

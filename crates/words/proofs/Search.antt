@@ -6,10 +6,19 @@ use Prim.Native.Nat.{ℕ}
 use Prim.Native.String.{String}
 use native.Mathlib.Omega.{arith}
 use lib.Dec.{T, eqb}
+use lib.Pointwise.{pointwise}
 use borrow.Author.Tests.{eqb-true}
 use Rattle.words.specs.Bytes.{bytes}
 use Rattle.words.specs.Form.{same, one_of}
 use Rattle.words.proofs.Tests.{both_left, both_right}
+
+-- `same` is what the library's `==` says of two slices
+pub same_is : (u v : List ℕ) → same u v ≡ pointwise eqb u v
+unfolding same
+same_is [] [] = refl
+same_is [] (y ∷ v) = refl
+same_is (x ∷ u) [] = refl
+same_is (x ∷ u) (y ∷ v) = ap (λ (b : Bool). eqb x y && b) (same_is u v)
 
 -- what `same` says
 pub same_eq : (u v : List ℕ) → same u v ≡ true → u ≡ v

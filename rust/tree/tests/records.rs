@@ -104,7 +104,7 @@ fn settings() -> Vec<(String, usize, usize)> {
         let value = between(&code, &format!("const {name}: u8 = "), ";");
         value.parse().unwrap_or_else(|_| panic!("{name} is {value}"))
     };
-    let highest = between(&code, "const LIMITS: [u8;", "];").split_once('[').expect("it is an array").1;
+    let highest = between(&code, "static LIMITS: [u8;", "];").split_once('[').expect("it is an array").1;
     let highest: Vec<usize> = highest.split(',').map(str::trim).filter(|name| !name.is_empty()).map(constant).collect();
     let mut open: Vec<usize> = listed(&spec, "OPEN").iter().map(|byte| byte.parse().expect("a number")).collect();
     assert_eq!(open.len(), 21);

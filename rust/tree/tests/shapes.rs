@@ -1,4 +1,4 @@
-//! The table of kinds says what the printer's own table says (crates/shapes/src/rows.rt, which is proved to be the
+//! The table of kinds says what the printer's own rows say (crates/shapes/src/rows.rt, which are proved to be the
 //! documents'): for every kind and variant what it holds, its count and its children, and for every place what may stand
 //! there and whether its name is declared.
 
@@ -7,59 +7,111 @@ mod sample;
 use sample::file;
 use tree::table::{form_of, Class, Form, Holds, Part};
 
-/// The printer's table. How it is read is crates/shapes/specs/Table.antt.
+/// A row: what a and b hold and what the count is, by their places in the enums, and the parts, how often each (1: once,
+/// 2: as often as the count says) and its class.
+struct Row<'a> {
+    held: [u8; 2],
+    parts: &'a [(u8, usize)],
+}
+
+/// The printer's rows. How they are read is crates/shapes/specs/Table.antt.
 struct Shapes {
-    bytes: Vec<u8>,
-    first_row: usize,
-    first_class: usize,
+    parts: Vec<(u8, usize)>,
+    rows: Vec<([u8; 2], [usize; 2])>,
+    kinds: Vec<[usize; 2]>,
+    allowed: Vec<[u8; 6]>,
+}
+
+/// What stands between two texts of a third.
+fn between<'a>(text: &'a str, front: &str, back: &str) -> &'a str {
+    let behind = text.split_once(front).unwrap_or_else(|| panic!("no {front}")).1;
+    behind.split_once(back).unwrap_or_else(|| panic!("no {back} behind {front}")).0
+}
+
+/// The lines of an array or an enum, without comments.
+fn lines<'a>(text: &'a str, front: &str, back: &str) -> Vec<&'a str> {
+    let lines = between(text, front, back).lines().map(|line| line.trim().trim_end_matches(','));
+    lines.skip(1).filter(|line| !line.is_empty() && !line.starts_with("//")).collect()
+}
+
+/// The place of a word in a list.
+fn place(list: &[&str], word: &str) -> usize {
+    list.iter().position(|other| *other == word).unwrap_or_else(|| panic!("no {word}"))
+}
+
+/// The value of a field in the text of a struct; `false` and `true` are 0 and 1.
+fn field(text: &str, name: &str) -> usize {
+    let behind = text.split_once(&format!("{name}: ")).unwrap_or_else(|| panic!("no {name}")).1;
+    match behind.split([',', ' ', '\n']).next() {
+        Some("false") => 0,
+        Some("true") => 1,
+        Some(number) => number.parse().unwrap_or_else(|_| panic!("{name} is {number}")),
+        None => panic!("{name} is nothing"),
+    }
 }
 
 impl Shapes {
     fn read() -> Self {
-        let code = String::from_utf8(file("crates/shapes/src/rows.rt")).expect("it is UTF-8");
-        let behind = |name: &str| code.split_once(name).unwrap_or_else(|| panic!("no {name}")).1;
-        let number = |name: &str| behind(name).split(';').next().and_then(|text| text.parse().ok()).expect("a number");
-        let byte = |digits: &str| u8::from_str_radix(&digits[..2], 16).expect("two digits");
-        let bytes = behind("pub const TABLE").split("\\x").skip(1).map(byte).collect();
-        let (first_row, first_class) = (number("FIRST_ROW: usize = "), number("FIRST_CLASS: usize = "));
-        Self { bytes, first_row, first_class }
+        let text = |path: &str| String::from_utf8(file(path)).expect("it is UTF-8");
+        let (types, code) = (text("crates/shapes/src/lib.rt"), text("crates/shapes/src/rows.rt"));
+        let cases = |name: &str| lines(&types, &format!("pub enum {name} {{"), "\n}");
+        let (classes, fields, counts) = (cases("Class"), cases("Fields"), cases("Count"));
+        let array = |name: &str| between(&code, &format!("static {name}: "), "\n];");
+        let structs = |name: &str, of: &str| -> Vec<String> {
+            array(name).split(&format!("\n    {of} {{")).skip(1).map(String::from).collect()
+        };
+        let part = |line: &str| {
+            let times = if line.starts_with("OneOf(") { 1 } else { 2 };
+            (times, place(&classes, between(line, "(Class::", ")")))
+        };
+        let row = |name: &str| {
+            let text = between(&code, &format!("\nconst {name}: Row = Row {{"), "};");
+            let case = |list: &[&str], front: &str| u8::try_from(place(list, between(text, front, ","))).expect("few");
+            ([case(&fields, "Fields::"), case(&counts, "Count::")], [field(text, "first"), field(text, "end")])
+        };
+        let allowed = ["low", "high", "also", "least", "most", "declares"];
+        let byte = |text: &str, name: &str| u8::try_from(field(text, name)).expect("a byte");
+        Self {
+            parts: lines(&code, "static PARTS: ", "\n];").into_iter().map(part).collect(),
+            rows: lines(&code, "static ROWS: ", "\n];").into_iter().map(row).collect(),
+            kinds: structs("KINDS", "Kind")
+                .iter()
+                .map(|text| ["last", "first"].map(|name| field(text, name)))
+                .collect(),
+            allowed: structs("ALLOWED", "Allowed").iter().map(|text| allowed.map(|name| byte(text, name))).collect(),
+        }
     }
 
     /// The row of a kind and variant; none where the kind has no such variant.
-    fn row(&self, kind: u8, variant: u8) -> Option<&[u8]> {
-        let head = &self.bytes[2 * usize::from(kind)..];
-        let start = self.first_row + 8 * (usize::from(head[1]) + usize::from(variant));
-        (variant <= head[0]).then(|| &self.bytes[start..start + 8])
+    fn row(&self, kind: u8, variant: u8) -> Option<Row<'_>> {
+        let [last, first] = self.kinds.get(usize::from(kind)).copied().unwrap_or_default();
+        let (held, [start, end]) = *self.rows.get(first + usize::from(variant))?;
+        (usize::from(variant) <= last).then(|| Row { held, parts: &self.parts[start..end] })
     }
 
-    /// The row of a part's class.
-    fn class(&self, part: u8) -> &[u8] {
-        &self.bytes[self.first_class + 8 * usize::from(part % 32)..]
-    }
-
-    /// Whether a kind and variant may stand where a part's class is asked for.
-    fn takes(&self, part: u8, kind: u8, variant: u8) -> (bool, bool) {
-        let class = self.class(part);
-        let kinds = (class[0]..=class[1]).contains(&kind) || kind == class[2];
-        (kinds, kinds && (class[3]..=class[4]).contains(&variant))
+    /// Whether a kind and variant may stand where a class is asked for.
+    fn takes(&self, class: usize, kind: u8, variant: u8) -> (bool, bool) {
+        let [low, high, also, least, most, _] = self.allowed[class];
+        let kinds = (low..=high).contains(&kind) || kind == also;
+        (kinds, kinds && (least..=most).contains(&variant))
     }
 
     /// Whether some place takes a kind.
     fn knows(&self, kind: u8) -> bool {
-        (0..32).any(|class| self.takes(class, kind, 0).0)
+        (0..self.allowed.len()).any(|class| self.takes(class, kind, 0).0)
     }
 
-    /// Whether a name is declared where a part's class is asked for.
-    fn declares(&self, part: u8) -> bool {
-        self.class(part)[5] == 1
+    /// Whether a name is declared where a class is asked for.
+    fn declares(&self, class: usize) -> bool {
+        self.allowed[class][5] == 1
     }
 
-    /// Whether a part's class is a class of ours.
-    fn same(&self, part: u8, class: Class) -> bool {
+    /// Whether a class of the printer's is a class of ours.
+    fn same(&self, asked: usize, class: Class) -> bool {
         let same =
-            |kind, variant| self.takes(part, kind, variant) == (class.takes_kind(kind), class.takes(kind, variant));
+            |kind, variant| self.takes(asked, kind, variant) == (class.takes_kind(kind), class.takes(kind, variant));
         let takes_the_same = (0..=u8::MAX).all(|kind| (0..=u8::MAX).all(|variant| same(kind, variant)));
-        takes_the_same && self.declares(part) == class.declares()
+        takes_the_same && self.declares(asked) == class.declares()
     }
 }
 
@@ -94,12 +146,11 @@ fn the_table_is_the_printers() {
         let form = form_of(kind, variant);
         assert_eq!(row.is_some(), form.is_some(), "{kind} {variant}");
         let (Some(row), Some(form)) = (row, form) else { continue };
-        assert_eq!(row[..2], held(form, variant), "{kind} {variant}");
+        assert_eq!(row.held, held(form, variant), "{kind} {variant}");
         let parts = parts(form, variant);
-        let slots: Vec<u8> = row[2..6].iter().copied().take_while(|slot| *slot != 0).collect();
-        assert_eq!(slots.len(), parts.len(), "{kind} {variant}");
-        for (slot, (times, class)) in slots.into_iter().zip(parts) {
-            assert!(slot / 32 == times && shapes.same(slot, class), "{kind} {variant}: {class:?}");
+        assert_eq!(row.parts.len(), parts.len(), "{kind} {variant}");
+        for (&(often, asked), (times, class)) in row.parts.iter().zip(parts) {
+            assert!(often == times && shapes.same(asked, class), "{kind} {variant}: {class:?}");
         }
         compared += 1;
     }

@@ -1,30 +1,36 @@
 -- `accept::name_judged` meets its contract: each answer by the sort of the name. Assumes nothing.
-use mathlib.Core.Path.{sym, ◌∙◌, ap}
-use Rattle.shapes.specs.Table.{shape_at}
-use Rattle.accept.specs.Check.{judged}
-use Rattle.accept.proofs.Codes.{misformed, ordinary, reserved_declared, reserved_used}
+use mathlib.Core.Path.{◌≡◌, refl, sym, ◌∙◌}
+use mathlib.Core.Bool.{Bool, true, false, not, cond, ◌&&◌, and-false}
+use mathlib.Core.List.{List}
+use mathlib.Core.Option.{none, some}
+use Prim.Native.Nat.{ℕ}
+use Rattle.words.specs.declared.NameSort.TheVariants.{Ordinary, Reserved, NoName}
+use Rattle.words.specs.Form.{name_form, reserved}
+use Rattle.words.proofs.Sorts.{told}
+use Rattle.shapes.specs.Shape.{Fields}
+use Rattle.accept.specs.declared.Refusal.TheVariants.{TextMisformed, ReservedDeclared}
+use Rattle.accept.specs.Check.{text_fault}
 use Rattle.accept.proofs.name_judged.Goals as goal
 
-pub returns-then-is_declared : goal.returns-then-is_declared
-unfolding shape_at
-returns-then-is_declared c =
-    sym (ap (judged c.args.i) (reserved_declared _ _ _ c.requires.3 c.requires.4
-    (sym c.name_sort.ensures ∙ c.in-Reserved.is)
-    (sym c.is_declared.ensures ∙ c.if-is_declared.true)))
+fault_found : (declared : Bool) (s : List ℕ) → text_fault declared Fields.name s ≡ cond (not (name_form s)) (some TextMisformed) (cond (declared && reserved s) (some ReservedDeclared) none)
+fault_found true s = refl
+fault_found false s = refl
+
+pub returns-then-declared : goal.returns-then-declared
+returns-then-declared c =
+    let sort = told c.args.text.now Reserved (sym c.name_sort.ensures ∙ c.in-Reserved.is) in
+    simp (c.at-then-declared.ensures, c.if-declared.true, sort.0, sort.1)
 
 pub returns-in-NoName : goal.returns-in-NoName
-unfolding shape_at
 returns-in-NoName c =
-    sym (ap (judged c.args.i) (misformed _ _ _ c.requires.3 c.requires.4 (sym c.name_sort.ensures ∙ c.in-NoName.is)))
+    simp (c.at.ensures, fault_found c.args.declared c.args.text.now, told c.args.text.now NoName (sym c.name_sort.ensures ∙ c.in-NoName.is))
 
 pub returns-in-Ordinary : goal.returns-in-Ordinary
-unfolding shape_at
 returns-in-Ordinary c =
-    sym (ap (judged c.args.i) (ordinary _ _ _ c.requires.3 c.requires.4 (sym c.name_sort.ensures ∙ c.in-Ordinary.is)))
+    let sort = told c.args.text.now Ordinary (sym c.name_sort.ensures ∙ c.in-Ordinary.is) in
+    simp (fault_found c.args.declared c.args.text.now, sort.0, sort.1, and-false)
 
-pub returns-else-is_declared : goal.returns-else-is_declared
-unfolding shape_at
-returns-else-is_declared c =
-    sym (ap (judged c.args.i) (reserved_used _ _ _ c.requires.3 c.requires.4
-    (sym c.name_sort.ensures ∙ c.in-Reserved.is)
-    (sym c.is_declared.ensures ∙ c.if-is_declared.false)))
+pub returns-else-declared : goal.returns-else-declared
+returns-else-declared c =
+    let sort = told c.args.text.now Reserved (sym c.name_sort.ensures ∙ c.in-Reserved.is) in
+    simp (c.if-declared.false, sort.0)

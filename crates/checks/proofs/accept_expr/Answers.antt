@@ -5,7 +5,7 @@ use Prim.Native.Nat.{◌≤◌}
 use native.Mathlib.Omega.{arith}
 use mir.Facts.{to_z-of_z}
 use Rattle.shapes.specs.Class.{Class}
-use Rattle.accept.specs.declared.Checked.{Checked}
+use Rattle.accept.specs.Checked.{Checked}
 use Rattle.accept.specs.Refusal.{checked_place}
 use Rattle.accept.specs.Check.{most_records}
 use Rattle.checks.specs.Answer.{answer}

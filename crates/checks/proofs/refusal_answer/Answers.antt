@@ -12,15 +12,15 @@ use Rattle.checks.proofs.refusal_answer.Goals as goal
 
 pub overflow_sub-result : goal.overflow_sub-result
 overflow_sub-result c =
-    let n = c.number_of.result * 4294967296 + c.args.place in
-    let h : n < 2 ^ 63 = omega (arith, c.number_of.ensures.1, c.requires) in
+    let n = c.from.result * 4294967296 + c.args.r.place in
+    let h : n < 2 ^ 63 = omega (arith, c.from.ensures.1, c.requires) in
     let f : pos 0 -ℤ to_z w64 n ≡ neg_ℤ (pos n) = ap (λ (z : ℤ). pos 0 -ℤ z) (to_z_pos w64 {n = n} h) ∙ +ℤ_idl (neg_ℤ (pos n)) in
     subst (SFits w64) (sym f) (minus_fits n h)
 
 pub returns : goal.returns
 unfolding refusal_answer
 returns c =
-    let n = c.number_of.result * 4294967296 + c.args.place in
-    let h : n < 2 ^ 63 = omega (arith, c.number_of.ensures.1, c.requires) in
+    let n = c.from.result * 4294967296 + c.args.r.place in
+    let h : n < 2 ^ 63 = omega (arith, c.from.ensures.1, c.requires) in
     let f : pos 0 -ℤ to_z w64 n ≡ neg_ℤ (pos n) = ap (λ (z : ℤ). pos 0 -ℤ z) (to_z_pos w64 {n = n} h) ∙ +ℤ_idl (neg_ℤ (pos n)) in
-    ap (λ (z : ℤ). to_z w64 (of_z w64 z)) f ∙ to_z-of_z (minus_fits n h) ∙ ap (λ (k : ℕ). neg_ℤ (pos (k * 4294967296 + c.args.place))) c.number_of.ensures.0
+    ap (λ (z : ℤ). to_z w64 (of_z w64 z)) f ∙ to_z-of_z (minus_fits n h) ∙ ap (λ (k : ℕ). neg_ℤ (pos (k * 4294967296 + c.args.r.place))) c.from.ensures.0

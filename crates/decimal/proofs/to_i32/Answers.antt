@@ -1,13 +1,11 @@
--- `decimal::to_i32` meets its contract, by the laws of Sign. Assumes nothing.
-use native.Mathlib.Omega.{arith}
-use Rattle.decimal.proofs.Sign.{below_zero, below_zero_signed, from_zero_signed}
+-- `decimal::to_i32` meets its contract: the library's reading of the bits is the definition's. Assumes nothing.
+use mathlib.Core.Path.{◌∙◌}
+use mir.Facts.{to_z-of_z}
+use mir.Syntax.{w32}
+use Rattle.decimal.proofs.Sign.{signed_is}
 use Rattle.decimal.proofs.to_i32.Goals as goal
 
-pub overflow_sub-result : goal.overflow_sub-result
-overflow_sub-result c = below_zero c.args.a c.ranges.a.fits (omega arith)
-
-pub returns-then-a-gt2147483647 : goal.returns-then-a-gt2147483647
-returns-then-a-gt2147483647 c = below_zero_signed c.args.a c.ranges.a.fits (omega arith)
-
 pub returns : goal.returns
-returns c = from_zero_signed c.args.a c.ranges.a.fits (omega arith)
+returns c =
+    let x = c.cast_signed in
+    to_z-of_z {w = w32} {z = x.result} (record { sfits = x.type_inv }) ∙ x.ensures ∙ signed_is c.args.a c.ranges.a.fits

@@ -5,8 +5,8 @@ use Rattle.decimal.proofs.Laws.{length_small}
 use Rattle.decimal.proofs.Powers.{length_between}
 use Rattle.decimal.proofs.width.Goals as goal
 
-pub returns-then-n-lt10 : goal.returns-then-n-lt10
-returns-then-n-lt10 c = (sym (length_small _ (omega arith)), omega arith)
+pub returns-in-0-to-9 : goal.returns-in-0-to-9
+returns-in-0-to-9 c = (sym (length_small _ (omega arith)), omega arith)
 
-pub returns-then-n-lt100 : goal.returns-then-n-lt100
-returns-then-n-lt100 c = (sym (length_between 1 _ (omega arith) (omega arith)), omega arith)
+pub returns-in-10-to-99 : goal.returns-in-10-to-99
+returns-in-10-to-99 c = (sym (length_between 1 _ (omega arith) (omega arith)), omega arith)

@@ -3,8 +3,7 @@ use mir.Syntax.{w64}
 use mathlib.Core.Path.{sym, ◌∙◌, ap, subst}
 use Prim.Native.Nat.{◌<◌, ◌^◌}
 use mir.Facts.{to_z-of_z}
-use Rattle.glsl.specs.declared.Whether.{Whether}
-use Rattle.glsl.specs.Joined.{joined_place, joined_bits}
+use Rattle.glsl.specs.Joined.{Whether, joined_place, joined_bits}
 use Rattle.glsl.proofs.Question.{question_small}
 use Rattle.glsl.proofs.glsl_joined.Goals as goal
 

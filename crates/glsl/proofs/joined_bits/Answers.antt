@@ -1,23 +1,22 @@
 -- `glsl::joined_bits` meets its contract: by the case. Assumes nothing.
+use Rattle.std.specs.Prelude.{Ok}
 use mir.Syntax.{w64}
-use mathlib.Core.Path.{sym, ◌∙◌, ap, subst}
-use Prim.Native.Nat.{◌<◌, ◌^◌}
+use mir.Val.{bool_byte}
+use lib.IntN.{pos}
+use mathlib.Core.Path.{◌≡◌, refl, sym, ◌∙◌, ap}
+use mathlib.Core.Bool.{Bool, true, false}
 use mir.Facts.{to_z-of_z}
-use Rattle.glsl.specs.declared.Whether.{Whether}
-use Rattle.glsl.specs.Joined.{joined_place, joined_bits}
+use Rattle.glsl.specs.Joined.{joined_bits}
 use Rattle.glsl.proofs.joined_bits.Goals as goal
 
-pub refusal_answer-requires : goal.refusal_answer-requires
-refusal_answer-requires c = subst (λ (o : Whether). joined_place o < 2 ^ 32) c.in-Refused.is c.requires
-
-pub returns-in-No : goal.returns-in-No
+bit : (b : Bool) → pos (bool_byte b) ≡ joined_bits (Ok b)
 unfolding joined_bits
-returns-in-No c = sym (ap joined_bits c.in-No.is)
+bit true = refl
+bit false = refl
 
-pub returns-in-Yes : goal.returns-in-Yes
-unfolding joined_bits
-returns-in-Yes c = sym (ap joined_bits c.in-Yes.is)
+pub returns-in-Ok : goal.returns-in-Ok
+returns-in-Ok c = to_z-of_z {w = w64} (record { sfits = c.from.type_inv }) ∙ c.from.ensures ∙ bit c.in-Ok.joined ∙ sym (ap joined_bits c.in-Ok.is)
 
-pub returns-in-Refused : goal.returns-in-Refused
+pub returns-in-Err : goal.returns-in-Err
 unfolding joined_bits
-returns-in-Refused c = to_z-of_z {w = w64} (record { sfits = c.refusal_answer.type_inv }) ∙ c.refusal_answer.ensures ∙ sym (ap joined_bits c.in-Refused.is)
+returns-in-Err c = to_z-of_z {w = w64} (record { sfits = c.refusal_answer.type_inv }) ∙ c.refusal_answer.ensures ∙ sym (ap joined_bits c.in-Err.is)

@@ -4,8 +4,7 @@ use mathlib.Core.Path.{sym, ◌∙◌, ap, subst}
 use Prim.Native.Nat.{◌<◌, ◌^◌}
 use native.Mathlib.Omega.{arith}
 use mir.Facts.{to_z-of_z}
-use Rattle.glsl.specs.declared.Printed.{Printed}
-use Rattle.glsl.specs.Printed.{printed_bits}
+use Rattle.glsl.specs.Printed.{Printed, printed_bits}
 use Rattle.glsl.specs.Root.{value}
 use Rattle.glsl.proofs.Accepted.{small}
 use Rattle.glsl.proofs.print_bits.Goals as goal

@@ -1,13 +1,18 @@
--- `joined::children` meets its contract: by the table's row of the record's kind and variant. Assumes nothing.
-use native.Mathlib.Omega.{arith}
-use Rattle.joined.proofs.Parts.{not_listed, within, counted}
+-- `joined::children` meets its contract: by the shape of the record's kind and variant. Assumes nothing.
+use mathlib.Core.Path.{◌∙◌, ap, sym}
+use lib.ListN.{length}
+use borrow.Author.Tests.{le-ltb, lt-ltb}
+use Rattle.shapes.specs.Shape.{Shape, classes}
+use Rattle.joined.specs.Stack.{child_count}
 use Rattle.joined.proofs.children.Goals as goal
 
 pub returns-then-last_variant-r : goal.returns-then-last_variant-r
-returns-then-last_variant-r c = not_listed c.requires c.args.r (omega arith) c.last_variant.ensures c.if-last_variant-r.true
-
-pub children_in-requires : goal.children_in-requires
-children_in-requires c = within c.requires c.args.r (omega arith) c.last_variant.ensures c.if-last_variant-r.false c.row_of.ensures.0
+unfolding child_count
+returns-then-last_variant-r c = simp (← c.last_variant.ensures, lt-ltb _ _ c.if-last_variant-r.true)
 
 pub returns : goal.returns
-returns c = counted c.requires c.args.r (omega arith) c.last_variant.ensures c.if-last_variant-r.false c.row_of.ensures.0 c.children_in.ensures
+unfolding child_count
+returns c =
+    c.children_in.ensures
+    ∙ ap (λ (s : Shape). length (classes c.args.r.count s.parts)) c.shape_of.ensures.says
+    ∙ sym (simp (← c.last_variant.ensures, le-ltb _ _ c.if-last_variant-r.false))

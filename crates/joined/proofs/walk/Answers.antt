@@ -1,30 +1,27 @@
--- `joined::walk` meets its contract. The invariant: the head, the bytes of the stack from its top on and the answer are the walk's before record i.
--- Assumes nothing.
-use mathlib.Core.Path.{refl, ◌∙◌}
-use Prim.Native.Nat.{◌-◌}
+-- `joined::walk` meets its contract. The invariant: the head, the stack and the answer are the walk's before record i. Assumes nothing.
+use mathlib.Core.Path.{sym, ap, ◌∙◌}
+use mathlib.Core.Bool.{false}
+use mathlib.Core.List.{List, map}
 use native.Mathlib.Omega.{arith}
-use lib.ListN.{length-set}
-use Rattle.joined.proofs.Steps.{begins, again, ended}
+use lib.ListN.{length, length-drop}
+use Rattle.std.specs.Prelude.{Option}
+use Rattle.signs.specs.Sign.{byte_of}
+use Rattle.signs.specs.declared.Sign.{Sign}
+use Rattle.joined.specs.Stack.{no_head}
+use Rattle.joined.proofs.Steps.{begins, again}
 use Rattle.joined.proofs.walk.Goals as goal
 
 pub loop-i-init : goal.loop-i-init
-loop-i-init c = (omega arith, omega arith, omega arith, refl, begins c.args.records.now c.args.stack.now c.args.n)
+loop-i-init c =
+    let empty = c.new-stack.ensures in
+    (rw empty (omega arith), begins c.args.records.now c.args.n ∙ ap (λ (s : List (Option Sign)). record { head = no_head; stack = map byte_of s; found = false }) (sym empty))
 
 pub loop-i-preserved : goal.loop-i-preserved
 loop-i-preserved c =
     let l = c.loop-i in
-    let off = c.taken_off-top.ensures in
-    let k = length-set l.stack (c.taken_off-top.result - 1) c.bare_sign.result in (
-      omega arith,
-      omega arith,
-      omega arith,
-      k ∙ l.invariant.3,
-      again c.args.records.now c.args.n l.i l.stack l.top c.taken_off-top.result l.head l.found c.loop-i-test.true l.invariant.0 l.invariant.4
-          c.record_at-r.ensures c.second.ensures c.joins-found.ensures c.head_of-head.ensures c.children.ensures (omega arith) off.1 (off.2 l.stack refl) c.bare_sign.ensures,
+    let left = ap length c.take_off.ensures ∙ length-drop c.children.result l.stack in
+    let long = ap length c.push.ensures in (
+      omega (arith, left, long, l.invariant.0),
+      again c.args.records.now c.args.n l.i l.stack l.head c.head_of-head.result l.found c.bare_sign.result c.loop-i-test.true (omega arith) l.invariant.1 c.record_at-r.ensures c.second.ensures c.joins-found.ensures
+          c.head_of-head.ensures c.children.ensures c.take_off.ensures c.bare_sign.ensures c.push.ensures,
     )
-
-pub shape_of-stack : goal.shape_of-stack
-shape_of-stack c = c.loop-i.invariant.3
-
-pub returns : goal.returns
-returns c = ended c.args.records.now c.args.n c.loop-i.i c.loop-i-test.false c.loop-i.invariant.4

@@ -10,8 +10,5 @@ use Rattle.leaves.proofs.past.Goals as goal
 pub overflow_add-behind : goal.overflow_add-behind
 overflow_add-behind c = omega (arith, bytes_stand _ _ (if_stands _ _ c.stands.ensures c.if-stands.true))
 
-pub returns-then-stands : goal.returns-then-stands
-returns-then-stands c = ap (λ (b : Bool). before (cond b (c.args.pen.next + 1) c.args.pen.next) c.args.pen) (sym c.if-stands.true ∙ c.stands.ensures)
-
 pub returns : goal.returns
 returns c = ap (λ (b : Bool). before (cond b (c.args.pen.next + 1) c.args.pen.next) c.args.pen) (sym c.if-stands.false ∙ c.stands.ensures)

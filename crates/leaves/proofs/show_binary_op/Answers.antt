@@ -20,7 +20,7 @@ returns-then-not-asked c =
     let a = c.args in
     λ ns.
     by_operator (binary_symbol (binary_op_of a.v)) (c.row-text.ensures ∙ ap text_at c.section_row.ensures ∙ binary_text _) c.write_binary_op-op.ensures
-    then off a.s needed_operator_spaces (joins_right (binary_op_of a.v) (expr (from a.records.now ns a.pen.next)).tree) (not-true (a.s.spaces_where_needed && not a.s.spaces_around_binary_ops) c.if-not-asked.true-raw)
+    then off a.src.now.settings needed_operator_spaces (joins_right (binary_op_of a.v) (expr (from a.src.now.tree.records.now ns a.pen.next)).tree) (not-true (a.src.now.settings.spaces_where_needed && not a.src.now.settings.spaces_around_binary_ops) c.if-not-asked.true-raw)
 
 -- one is needed
 pub returns-then-joins_at : goal.returns-then-joins_at
@@ -29,7 +29,7 @@ returns-then-joins_at c =
     let a = c.args in
     λ ns.
     by_operator (binary_symbol (binary_op_of a.v)) (c.row-text.ensures ∙ ap text_at c.section_row.ensures ∙ binary_text _) c.write_binary_op-op.ensures
-    then needed a.s needed_operator_spaces (joins_right (binary_op_of a.v) (expr (from a.records.now ns a.pen.next)).tree) (sym (right_test a.records.now ns a.pen.next a.v c.of_binary.ensures) ∙ sym (c.joins_at.ensures ns) ∙ c.if-joins_at.true) (not-false (a.s.spaces_where_needed && not a.s.spaces_around_binary_ops) c.if-not-asked.false-raw) c.write_char.ensures
+    then needed a.src.now.settings needed_operator_spaces (joins_right (binary_op_of a.v) (expr (from a.src.now.tree.records.now ns a.pen.next)).tree) (sym (right_test a.src.now.tree.records.now ns a.pen.next a.v c.of_binary.ensures) ∙ sym (c.joins_at.ensures ns) ∙ c.if-joins_at.true) (not-false (a.src.now.settings.spaces_where_needed && not a.src.now.settings.spaces_around_binary_ops) c.if-not-asked.false-raw) c.write_char.ensures
 
 -- none is needed
 pub returns : goal.returns
@@ -38,4 +38,4 @@ returns c =
     let a = c.args in
     λ ns.
     by_operator (binary_symbol (binary_op_of a.v)) (c.row-text.ensures ∙ ap text_at c.section_row.ensures ∙ binary_text _) c.write_binary_op-op.ensures
-    then unneeded a.s needed_operator_spaces (joins_right (binary_op_of a.v) (expr (from a.records.now ns a.pen.next)).tree) (sym (right_test a.records.now ns a.pen.next a.v c.of_binary.ensures) ∙ sym (c.joins_at.ensures ns) ∙ c.if-joins_at.false)
+    then unneeded a.src.now.settings needed_operator_spaces (joins_right (binary_op_of a.v) (expr (from a.src.now.tree.records.now ns a.pen.next)).tree) (sym (right_test a.src.now.tree.records.now ns a.pen.next a.v c.of_binary.ensures) ∙ sym (c.joins_at.ensures ns) ∙ c.if-joins_at.false)

@@ -2,10 +2,10 @@
 use Rattle.leaves.specs.Operand.{most_under}
 use Rattle.leaves.proofs.unary_most.Goals as goal
 
-pub returns-then-sign-kind_at : goal.returns-then-sign-kind_at
+pub returns-then-sign-is : goal.returns-then-sign-is
 unfolding most_under
-returns-then-sign-kind_at c = simp (← c.kind_at.ensures, ← c.variant_at.ensures, c.if-sign-kind_at.true)
+returns-then-sign-is c = simp (← c.is.ensures, ← c.variant_at.ensures, c.if-sign-is.true)
 
 pub returns : goal.returns
 unfolding most_under
-returns c = simp (← c.kind_at.ensures, ← c.variant_at.ensures, c.if-sign-kind_at.false)
+returns c = simp (← c.is.ensures, ← c.variant_at.ensures, c.if-sign-is.false)

@@ -14,4 +14,4 @@ pub returns : goal.returns
 unfolding flag spell symbol_text
 returns c =
     let a = c.args in
-    λ ns. dot_behind spaces_where_needed (is_int (expr (from a.records.now ns a.at)).tree) (c.dot_apart-behind.ensures a.s spaces_where_needed ns refl) (by_token (Token.symbol Symbol.dot) refl c.write_char.ensures)
+    λ ns. dot_behind spaces_where_needed (is_int (expr (from a.src.now.tree.records.now ns a.at)).tree) (c.dot_apart-behind.ensures a.src.now.settings spaces_where_needed ns refl) (by_token (Token.symbol Symbol.dot) refl c.write_char.ensures)

@@ -11,7 +11,6 @@ use Rattle.names.proofs.flaws_of.Goals as goal
 
 pub returns : goal.returns
 returns c =
-    let a = c.args in
-    let e : get_or a.table.now (first_flaw + c.wide.result) 0 ≡ flaw a.x
-    = flaw_here a.table.now c.requires _ c.wide.ensures.1 ∙ ap flaw c.wide.ensures.0 in
-    (e, omega (arith, e, flaw_small a.x))
+    let e : get_or c.table.result.now (first_flaw + c.from.result) 0 ≡ flaw c.args.x
+    = flaw_here _ c.table.ensures _ (omega arith) ∙ ap flaw c.from.ensures in
+    (e, omega (arith, e, flaw_small c.args.x))

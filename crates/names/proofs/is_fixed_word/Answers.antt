@@ -5,6 +5,7 @@ use Prim.Native.Nat.{ℕ}
 use native.Mathlib.Omega.{arith}
 use Rattle.words.specs.Form as Form
 use Rattle.words.specs.Keyword.{fixed_words}
+use Rattle.words.proofs.Search.{same_is}
 use Rattle.word_table.specs.Slot.{slots_of, row_in}
 use Rattle.word_table.proofs.Rule.{none_short}
 use Rattle.word_table.proofs.Slots.{slot_here, found}
@@ -17,6 +18,6 @@ pub returns : goal.returns
 returns c =
     let s = c.args.s.now in
     let at = c.slot_of.ensures in
-    c.same.ensures ∙ ap (λ (u : List ℕ). Form.same u s) c.row.ensures
+    c.eq.ensures ∙ sym (same_is c.row.result.now s) ∙ ap (λ (u : List ℕ). Form.same u s) c.row.ensures
     ∙ found s _ c.if-s-lt2.false
-    (c.wide-k.ensures.0 ∙ slot_here _ c.requires _ (omega (arith, at)) ∙ ap (λ (h : ℕ). row_in (slots_of fixed_words) h 0) at)
+    (c.from.ensures ∙ slot_here _ c.table.ensures _ (omega (arith, at)) ∙ ap (λ (h : ℕ). row_in (slots_of fixed_words) h 0) at)

@@ -8,22 +8,20 @@ use Rattle.words.proofs.Laws.{all_done}
 use Rattle.names.proofs.Flaws.{flaws_more, part_long, part_at}
 use Rattle.names.proofs.next_name_bytes.Goals as goal
 
-pub flaws_of-flaws-requires : goal.flaws_of-flaws-requires
-flaws_of-flaws-requires c = c.requires.0
-
-pub overflow_add-flaws : goal.overflow_add-flaws
-overflow_add-flaws c = omega (arith, c.flaws_of-flaws.ensures.1)
-
 pub loop-i-preserved : goal.loop-i-preserved
 loop-i-preserved c =
     let a = c.args in
     let at = c.loop-i in
-    let long = part_long a.s.now a.start 8 c.requires.1 in
-    let read = c.flaws_of-flaws.ensures.0 ∙ ap flaw (sym (part_at a.s.now a.start 8 at.i c.loop-i-test.true)) in
-    (omega arith, omega (arith, c.flaws_of-flaws.ensures.1), flaws_more (take 8 (drop a.start a.s.now)) at.i _ _ (omega (arith, long)) at.invariant.2 read)
+    let found = c.flaws_of-flaws.ensures in
+    let long = part_long a.s.now a.start 8 c.requires in record {
+      few = omega (arith, found.1);
+      rest =
+          flaws_more (take 8 (drop a.start a.s.now)) at.i _ _ (omega (arith, long)) at.invariant.rest
+          (found.0 ∙ ap flaw (sym (part_at a.s.now a.start 8 at.i c.loop-i-test.true)));
+    }
 
 pub returns : goal.returns
 returns c =
     let a = c.args in
-    let long = part_long a.s.now a.start 8 c.requires.1 in
-    sym (all_done name_byte _ _ {i = c.loop-i.i} (omega (arith, long)) c.loop-i.invariant.2)
+    let long = part_long a.s.now a.start 8 c.requires in
+    sym (all_done name_byte _ _ {i = c.loop-i.i} (omega (arith, long)) c.loop-i.invariant.rest)

@@ -1,29 +1,21 @@
--- `records::record_at` meets its contract: the answer of `stands` says which of the two cases it is. Assumes nothing.
+-- `records::record_at` meets its contract: where an array stands, it is the record. Assumes nothing.
 use mathlib.Core.Path.{sym, ◌∙◌}
+use mathlib.Core.List.{[]}
 use native.Mathlib.Omega.{arith}
-use Rattle.records.proofs.Laws.{if_stands, if_not, bytes_stand, record_here, record_behind}
+use Rattle.records.specs.Record.{record_count}
+use Rattle.records.proofs.Laws.{all_zero, record_behind}
+use Rattle.records.proofs.Chunks.{record_in_arrays}
 use Rattle.records.proofs.record_at.Goals as goal
 
-pub overflow_mul-i : goal.overflow_mul-i
-overflow_mul-i c =
-    let x = c.args in
-    let h = if_stands x.records.now x.i c.stands.ensures c.if-stands.true in
-    record { fits = omega (arith, bytes_stand x.records.now x.i h) }
+pub returns-in-Some : goal.returns-in-Some
+unfolding record_count
+returns-in-Some c =
+    let here = c.in-Some.ensures.lookup.3 in
+    let front = c.as_chunks.ensures.front in
+    c.of.ensures ∙ record_in_arrays c.args.records.now c.args.i (omega (arith, here.0, c.as_chunks.ensures.front_len)) (here.1 [] ∙ cc)
 
-pub record_in-requires : goal.record_in-requires
-record_in-requires c =
-    let x = c.args in
-    let h = if_stands x.records.now x.i c.stands.ensures c.if-stands.true in
-    omega (arith, bytes_stand x.records.now x.i h)
-
-pub returns-then-stands : goal.returns-then-stands
-returns-then-stands c =
-    let x = c.args in
-    let h = if_stands x.records.now x.i c.stands.ensures c.if-stands.true in
-    c.record_in.ensures ∙ sym (record_here x.records.now x.i h)
-
-pub returns : goal.returns
-returns c =
-    let x = c.args in
-    let h = if_not x.records.now x.i c.stands.ensures c.if-stands.false in
-    sym (record_behind x.records.now x.i h)
+pub returns-in-None : goal.returns-in-None
+unfolding record_count
+returns-in-None c =
+    all_zero c.default.result c.default.ensures
+    ∙ sym (record_behind c.args.records.now c.args.i (omega (arith, c.in-None.ensures.lookup.3, c.as_chunks.ensures.front_len)))

@@ -1,6 +1,9 @@
--- `shapes::last_variant` meets its contract: the first byte of a kind's head. Assumes nothing.
-use Rattle.shapes.proofs.Laws.{last_here}
+-- `shapes::last_variant` meets its contract: the kind's row says it. Assumes nothing.
+use mathlib.Core.Path.{◌∙◌, ap}
+use native.Mathlib.Omega.{arith}
+use Rattle.shapes.specs.declared.Kind.{Kind}
+use Rattle.shapes.proofs.Says.{last_said}
 use Rattle.shapes.proofs.last_variant.Goals as goal
 
 pub returns : goal.returns
-returns c = last_here _ _ c.wide.ensures.0 c.cell.ensures
+returns c = ap (λ (k : Kind). k.last) c.kind_of.ensures ∙ last_said c.args.k (omega arith)

@@ -8,7 +8,7 @@ use Rattle.show_declaration.proofs.show_block_name.Goals as goal
 
 pub returns-then-on : goal.returns-then-on
 unfolding optional
-returns-then-on c = there c.args.records.now c.args.names.now identifier show_arrayed_identifier (optional show_arrayed_identifier) (λ x. refl) c.if-on.true c.ident.ensures
+returns-then-on c = there c.args.src.now.tree.records.now c.args.src.now.tree.names.now identifier show_arrayed_identifier (optional show_arrayed_identifier) (λ x. refl) c.if-on.true c.ident.ensures
 
 pub returns : goal.returns
 unfolding optional

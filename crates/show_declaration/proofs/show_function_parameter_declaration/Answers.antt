@@ -7,22 +7,19 @@ use Rattle.show_expr.proofs.Printers.{no_row}
 use Rattle.show_declaration.proofs.Printers.{named, unnamed}
 use Rattle.show_declaration.proofs.show_function_parameter_declaration.Goals as goal
 
-pub returns-then-r-ne41 : goal.returns-then-r-ne41
+pub returns-in_default : goal.returns-in_default
 unfolding show_function_parameter_declaration item_of parameter_of
-returns-then-r-ne41 c = no_row c.args.records.now c.args.names.now (λ (i : Item). i.parameter) show_function_parameter_declaration 41 _ FunctionParameterDeclaration.no_parameter c.record_at-r.ensures refl c.if-r-ne41.true refl
-
-pub ident-requires : goal.ident-requires
-ident-requires c = c.requires
+returns-in_default c = no_row c.args.src.now.tree.records.now c.args.src.now.tree.names.now (λ (i : Item). i.parameter) show_function_parameter_declaration 41 _ FunctionParameterDeclaration.no_parameter refl refl c.in_default.ensures refl
 
 pub returns-then-r-eq1 : goal.returns-then-r-eq1
 returns-then-r-eq1 c =
-    named c.args.records.now c.args.names.now c.record_at-r.ensures
-    c.if-r-ne41.false
+    named c.args.src.now.tree.records.now c.args.src.now.tree.names.now c.in-Some.ensures.0
+    c.in-Some.ensures.1
     c.if-r-eq1.true
-    c.past-inside.ensures c.qualif-qualified.ensures c.ty-typed.ensures
+    c.in-Some.ensures.2 c.qualif-qualified.ensures c.ty-typed.ensures
     c.write_char-spaced.ensures c.ident.ensures
 
 pub returns : goal.returns
 returns c =
-    unnamed c.args.records.now c.args.names.now c.record_at-r.ensures c.if-r-ne41.false c.if-r-eq1.false
-    c.past-inside.ensures c.qualif-qualified.ensures c.ty-typed.ensures
+    unnamed c.args.src.now.tree.records.now c.args.src.now.tree.names.now c.in-Some.ensures.0 c.in-Some.ensures.1 c.if-r-eq1.false
+    c.in-Some.ensures.2 c.qualif-qualified.ensures c.ty-typed.ensures

@@ -3,4 +3,4 @@ use Rattle.show_expr.proofs.Parts.{plain}
 use Rattle.show_expr.proofs.show_expr.Goals as goal
 
 pub returns : goal.returns
-returns c = plain c.args.records.now c.args.names.now c.expr.ensures
+returns c = plain c.args.src.now.tree.records.now c.args.src.now.tree.names.now c.expr.ensures

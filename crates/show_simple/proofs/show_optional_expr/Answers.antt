@@ -8,7 +8,7 @@ use Rattle.show_simple.proofs.show_optional_expr.Goals as goal
 
 pub returns-then-on : goal.returns-then-on
 unfolding optional
-returns-then-on c = there c.args.records.now c.args.names.now expr show_expr (optional show_expr) (λ x. refl) c.if-on.true c.show_expr.ensures
+returns-then-on c = there c.args.src.now.tree.records.now c.args.src.now.tree.names.now expr show_expr (optional show_expr) (λ x. refl) c.if-on.true c.show_expr.ensures
 
 pub returns : goal.returns
 unfolding optional

@@ -1,22 +1,19 @@
 -- `show_unit::show_external_declaration` meets its contract: by the kind of the record behind the flush. Assumes nothing.
-use Rattle.leaves.proofs.Shown.{shown_length}
+use mathlib.Core.Path.{refl}
+use Rattle.records.specs.declared.kind.Kind.TheVariants.{Declaration, FunctionDefinition}
+use Rattle.records.proofs.Numbers.{in_arm}
+use Rattle.leaves.proofs.Unlike.{no_number, not_this}
 use Rattle.show_unit.proofs.Unit.{flushed, declared, defined, undeclared}
 use Rattle.show_unit.proofs.show_external_declaration.Goals as goal
 
-pub returns-in-47 : goal.returns-in-47
-returns-in-47 c = flushed c.args.records.now c.args.names.now c.args.s.collapse_single_item_compound_statements c.enter_external_declaration-entered.ensures (declared c.args.records.now c.args.names.now c.args.s.collapse_single_item_compound_statements c.kind_at-kind.ensures c.in-47.is c.show_declaration.ensures)
+pub returns-in-Declaration : goal.returns-in-Declaration
+returns-in-Declaration c = flushed c.args.src.now.tree.records.now c.args.src.now.tree.names.now c.args.src.now.settings.collapse_single_item_compound_statements c.enter_external_declaration-entered.ensures (declared c.args.src.now.tree.records.now c.args.src.now.tree.names.now c.args.src.now.settings.collapse_single_item_compound_statements refl (in_arm _ c.kind.ensures c.in-Some.is c.in-Declaration.is) c.show_declaration.ensures)
 
-pub shape_of-room-in-47 : goal.shape_of-room-in-47
-shape_of-room-in-47 c = shown_length (returns-in-47 c)
-
-pub returns-in-81 : goal.returns-in-81
-returns-in-81 c = flushed c.args.records.now c.args.names.now c.args.s.collapse_single_item_compound_statements c.enter_external_declaration-entered.ensures (defined c.args.records.now c.args.names.now c.args.s.collapse_single_item_compound_statements c.kind_at-kind.ensures c.in-81.is c.past-inside.ensures c.show_function_definition.ensures)
-
-pub shape_of-room-in-81 : goal.shape_of-room-in-81
-shape_of-room-in-81 c = shown_length (returns-in-81 c)
+pub returns-in-FunctionDefinition : goal.returns-in-FunctionDefinition
+returns-in-FunctionDefinition c = flushed c.args.src.now.tree.records.now c.args.src.now.tree.names.now c.args.src.now.settings.collapse_single_item_compound_statements c.enter_external_declaration-entered.ensures (defined c.args.src.now.tree.records.now c.args.src.now.tree.names.now c.args.src.now.settings.collapse_single_item_compound_statements refl (in_arm _ c.kind.ensures c.in-Some.is c.in-FunctionDefinition.is) c.past-inside.ensures c.show_function_definition.ensures)
 
 pub returns-in_default : goal.returns-in_default
-returns-in_default c = flushed c.args.records.now c.args.names.now c.args.s.collapse_single_item_compound_statements c.enter_external_declaration-entered.ensures (undeclared c.args.records.now c.args.names.now c.args.s.collapse_single_item_compound_statements c.kind_at-kind.ensures c.in_default.in_default-own.rest.0.1 c.in_default.in_default-own.rest.1)
+returns-in_default c = flushed c.args.src.now.tree.records.now c.args.src.now.tree.names.now c.args.src.now.settings.collapse_single_item_compound_statements c.enter_external_declaration-entered.ensures (undeclared c.args.src.now.tree.records.now c.args.src.now.tree.names.now c.args.src.now.settings.collapse_single_item_compound_statements refl (no_number _ c.kind.ensures c.in_default.is Declaration) (no_number _ c.kind.ensures c.in_default.is FunctionDefinition))
 
-pub shape_of-room-in_default : goal.shape_of-room-in_default
-shape_of-room-in_default c = shown_length (returns-in_default c)
+pub returns-in_default-kind : goal.returns-in_default-kind
+returns-in_default-kind c = flushed c.args.src.now.tree.records.now c.args.src.now.tree.names.now c.args.src.now.settings.collapse_single_item_compound_statements c.enter_external_declaration-entered.ensures (undeclared c.args.src.now.tree.records.now c.args.src.now.tree.names.now c.args.src.now.settings.collapse_single_item_compound_statements refl (not_this _ c.kind.ensures c.in-Some.is Declaration c.in_default-kind.not-Declaration) (not_this _ c.kind.ensures c.in-Some.is FunctionDefinition c.in_default-kind.not-FunctionDefinition))

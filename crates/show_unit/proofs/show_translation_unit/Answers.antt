@@ -4,24 +4,18 @@ use mathlib.Core.List.{[], ◌∷◌}
 use native.Mathlib.Omega.{arith}
 use Rattle.text.specs.Text.{show_translation_unit}
 use Rattle.text.specs.Reading.{Item, item_of, unit_of, several, external as an_external}
-use Rattle.leaves.proofs.Shown.{start, turn, done, alike, shown_length}
+use Rattle.leaves.proofs.Shown.{step_alike, done}
 use Rattle.show_expr.proofs.Printers.{of_row, no_row}
 use Rattle.show_unit.proofs.Unit.{externals}
 use Rattle.show_unit.proofs.show_translation_unit.Goals as goal
 
-pub returns-then-r-ne80 : goal.returns-then-r-ne80
+pub returns-in_default : goal.returns-in_default
 unfolding show_translation_unit item_of unit_of
-returns-then-r-ne80 c = no_row c.args.records.now c.args.names.now (λ (x : Item). x.unit) (show_translation_unit c.args.s.collapse_single_item_compound_statements) 80 _ [] c.record_at-r.ensures refl c.if-r-ne80.true refl
+returns-in_default c = no_row c.args.src.now.tree.records.now c.args.src.now.tree.names.now (λ (x : Item). x.unit) (show_translation_unit c.args.src.now.settings.collapse_single_item_compound_statements) 80 _ [] refl refl c.in_default.ensures refl
 
-pub loop-left-init : goal.loop-left-init
-loop-left-init c = start (externals c.args.s.collapse_single_item_compound_statements) c.args.s c.args.records.now c.args.names.now
-
-pub loop-left-preserved : goal.loop-left-preserved
-loop-left-preserved c = alike (externals c.args.s.collapse_single_item_compound_statements) c.args.s c.args.records.now c.args.names.now (λ f xs. refl) (turn (externals c.args.s.collapse_single_item_compound_statements) c.args.s c.args.records.now c.args.names.now c.loop-left.invariant c.loop-left-test.true c.show_external_declaration-at.ensures)
+pub loop-k-preserved : goal.loop-k-preserved
+loop-k-preserved c = step_alike (externals c.args.src.now.settings.collapse_single_item_compound_statements) c.args.src.now.settings c.args.src.now.tree.records.now c.args.src.now.tree.names.now (λ f xs. refl) c.loop-k.invariant c.loop-k-test.true c.show_external_declaration-at.ensures
 
 pub returns : goal.returns
 unfolding item_of unit_of
-returns c = of_row c.args.records.now c.args.names.now c.record_at-r.ensures (λ (x : Item). x.unit) _ (show_translation_unit c.args.s.collapse_single_item_compound_statements) 80 (several c.record_at-r.result.count an_external [] ◌∷◌) refl (omega arith) c.if-r-ne80.false c.past-inside.ensures (done (externals c.args.s.collapse_single_item_compound_statements) c.args.s c.args.records.now c.args.names.now c.loop-left.invariant c.loop-left-test.false)
-
-pub shape_of-room : goal.shape_of-room
-shape_of-room c = shown_length (returns c)
+returns c = of_row c.args.src.now.tree.records.now c.args.src.now.tree.names.now c.in-Some.ensures.0 (λ (x : Item). x.unit) _ (show_translation_unit c.args.src.now.settings.collapse_single_item_compound_statements) 80 (several c.in-Some.r.count an_external [] ◌∷◌) refl (omega arith) c.in-Some.ensures.1 c.in-Some.ensures.2 (done (externals c.args.src.now.settings.collapse_single_item_compound_statements) c.args.src.now.settings c.args.src.now.tree.records.now c.args.src.now.tree.names.now c.loop-k.invariant (omega (arith, c.loop-k-test.false)))

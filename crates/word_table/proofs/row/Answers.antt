@@ -13,12 +13,12 @@ returns-then-k-ge-ROWS c = sym (no_row _ c.if-k-ge-ROWS.true)
 pub slice_bounds-result-end-2 : goal.slice_bounds-result-end-2
 slice_bounds-result-end-2 c =
     let a = c.args in
-    let e = length_here a.table.now c.requires a.k c.if-k-ge-ROWS.false in
-    omega (arith, c.wide.ensures.0, e, text_fits a.k, ap length c.requires, table_length)
+    let e = length_here c.table.result.now c.table.ensures a.k c.if-k-ge-ROWS.false in
+    omega (arith, e, text_fits a.k, ap length c.table.ensures, table_length)
 
 pub returns : goal.returns
 returns c =
     let a = c.args in
-    let e = c.wide.ensures.0 ∙ length_here a.table.now c.requires a.k c.if-k-ge-ROWS.false in
-    let n : 24 * a.k + c.wide.result - 24 * a.k ≡ length (text_at a.k) = omega (arith, e) in
-    text_here a.table.now c.requires a.k c.if-k-ge-ROWS.false _ n
+    let e = length_here c.table.result.now c.table.ensures a.k c.if-k-ge-ROWS.false in
+    let n : 24 * a.k + c.from.result - 24 * a.k ≡ length (text_at a.k) = omega (arith, e) in
+    text_here c.table.result.now c.table.ensures a.k c.if-k-ge-ROWS.false _ n

@@ -1,0 +1,17 @@
+-- `words::digits_in` meets its contract: the iterator's count is the number of digits in front. Assumes nothing.
+use Rattle.std.proofs.Common.{rules, tests, ◌∙◌}
+use Rattle.std.proofs.lemmas.Iterator.{YieldsList-from_slice}
+use Rattle.std.proofs.lemmas.Iterator.Consumers.{count_from_yields_List}
+use Rattle.std.proofs.lemmas.Iterator.Search.{YieldsList-from_take_while}
+use Rattle.std.proofs.lemmas.List.Folds.{length-prefix_len}
+use Rattle.words.specs.Letter.{digit}
+use Rattle.words.proofs.Floats.{digits_counted}
+use Rattle.words.proofs.digits_in.Goals as goal
+
+pub returns : goal.returns
+returns c =
+    let s = c.args.s.now in
+    count_from_yields_List c.take_while.result _ c.count.ensures.ran
+    (YieldsList-from_take_while _ digit (YieldsList-from_slice s cc) c.take_while.ensures.closure c.take_while.ensures.done
+    (λ x b q k. search (rules, tests)))
+    ∙ length-prefix_len digit s ∙ digits_counted s
