@@ -66,6 +66,14 @@ rm -f "$archive"
 if [ "$behind" = no ] || ! over_ci; then
     (cd "$root/crates/$crate" && rt lib --cpu x86-64)
 fi
+# What it needs from outside is what docs/PROMISES.md says and no more: memcpy and memset, which LLVM calls.
+if command -v nm >/dev/null 2>&1; then
+    needed=$(nm -u "$archive")
+    others=$(echo "$needed" | sed -n 's/^ *[Uvw] //p' | sort -u | grep -vx -e memcpy -e memset || true)
+    [ -z "$others" ] || { echo "staticlib: lib$name.a needs from outside besides memcpy and memset:" $others >&2; exit 1; }
+else
+    echo "staticlib: no nm, so what lib$name.a needs from outside is not looked at"
+fi
 mkdir -p "$root/target/native"
 cp "$archive" "$root/target/native/lib$name.a"
 echo "target/native/lib$name.a is proved and compiled"

@@ -2,22 +2,29 @@
 // none of document 01's calls: the numbers of a refusal's answer are.
 #![tactic(auto)]
 
-ghost use Rattle.std.specs.Prelude.{◌≡◌, ◌^◌, ◌<◌};
+ghost use Rattle.std.specs.Prelude.{◌≡◌, ◌+◌, ◌*◌, ◌^◌, ◌<◌};
 ghost use Rattle.shapes.specs.Class.{Class};
-ghost use Rattle.accept.specs.Refusal.{checked_place};
+ghost use Rattle.accept.specs.Refusal.{number, checked_place};
 ghost use Rattle.accept.specs.Check.{check};
 ghost use Rattle.checks.specs.Answer.{refusal_answer, answer};
 
 use accept::Refused;
 use records::Tree;
 
-// Minus the sum of the refusal's number times 2^32 and its place. (That a place has 32 bits is asked here and by the three that call it; as a type it would be made anew at each answer.)
+// The sum of the refusal's number times 2^32 and its place.
+fn sum_of(r: Refused) -> u64
+    requires { r.place < 2 ^ 32 }
+    ensures { (result ≡ number r.refusal * 4294967296 + r.place) × (result < 2 ^ 63) }
+{
+    u64::from(r.refusal) * 4294967296 + (r.place as u64)
+}
+
+// Minus that sum. (That a place has 32 bits is asked here and by the three that call it; as a type it would be made anew at each answer.)
 pub fn refusal_answer(r: Refused) -> i64
     requires { r.place < 2 ^ 32 }
     ensures { result ≡ refusal_answer r.refusal r.place }
 {
-    let sum = u64::from(r.refusal) * 4294967296 + (r.place as u64);
-    -(sum as i64)
+    -(sum_of(r) as i64)
 }
 
 // The check's answer: how many records there are, or the refusal.

@@ -151,7 +151,8 @@ fn reserved_sort(s: &[u8]) -> NameSort
     }
 }
 
-// What s is as a name. What begins with gl_ is told first and apart: so it costs other names least (docs/SPEED.md, "Reserved names").
+// What s is as a name. What begins with gl_ is told first and apart: so it costs other names least (docs/SPEED.md, "Reserved names"). (Put into its callers: docs/SPEED.md, "The look back".)
+#[inline(always)]
 pub fn name_sort(s: &[u8]) -> NameSort
     ensures { result ≡ Form.name_sort s.now }
 {

@@ -9,11 +9,11 @@ use Rattle.settings.specs.declared.FormattingState.{FormattingState}
 use Rattle.text.specs.Token.{Token, spell}
 use Rattle.text.specs.Asked.{Flag, flag}
 use Rattle.text.specs.Command.{Command}
-use Rattle.text.specs.Command.Command.{token, space, space_if, consume_newline, enter_function_definition_statement, consume_function_definition_statement}
+use Rattle.text.specs.Command.Command.{token, space, space_if, newline_if, consume_newline, enter_function_definition_statement, consume_function_definition_statement}
 use Rattle.text.specs.Pen.{pend, at_body}
 use Rattle.pen.specs.declared.Pen.{Pen}
 use Rattle.pen.specs.Sheet.{Sheet, leave, lay}
-use Rattle.pen.specs.Run.{space_where, step, run}
+use Rattle.pen.specs.Run.{asked, space_where, step, run}
 use Rattle.pen.specs.Promise.{sheet, Wrote, Ran, Turned}
 
 pub run_append : (s : Settings) (cs ds : List Command) (x : Sheet) → run s (cs ++ ds) x ≡ run s ds (run s cs x)
@@ -59,6 +59,10 @@ module _ {s : Settings} {room : List ℕ} {p : Pen} where
     by_turning : (c : Command) (st : FormattingState) → step s c (sheet room p) ≡ sheet room (leave st p) → p' ≡ leave st p → Ran s (c ∷ []) room p room p'
     unfolding run
     by_turning c st f e = record { ran = f ∙ ap (sheet room) (sym e) }
+
+    pub by_newline_if : (f : Flag) → p' ≡ leave (asked (flag s f) p.state) p → Ran s (newline_if f ∷ []) room p room p'
+    unfolding step
+    by_newline_if f = by_turning (newline_if f) _ refl
 
     pub by_consume_newline : p' ≡ leave (pend false p.state) p → Ran s (consume_newline ∷ []) room p room p'
     unfolding step

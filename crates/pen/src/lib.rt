@@ -47,6 +47,8 @@ impl Pen {
         self.forward(1)
     }
 
+    // (Put into its callers: docs/SPEED.md, "The look back".)
+    #[inline(always)]
     pub fn write_str(self, room: &mut [u8], text: &[u8]) -> Pen
         ensures { Wrote text.now room.old self room.new result }
     {
@@ -68,7 +70,8 @@ impl Pen {
         self.forward(front.len()).forward(back.len())
     }
 
-    // A whole number and its suffix: nothing, or `u`.
+    // A whole number and its suffix: nothing, or `u`. (Put into its callers, so that their pen needs no memory.)
+    #[inline(always)]
     fn write_digits(self, room: &mut [u8], n: u64, suffix: &[u8]) -> Pen
         ensures { Wrote (decimal n ++ suffix.now) room.old self room.new result }
     {
@@ -77,12 +80,14 @@ impl Pen {
     }
 
     // The token of a whole number, of a whole number with `u`, of a float, of a double.
+    #[inline(always)]
     pub fn write_int(self, room: &mut [u8], n: u64) -> Pen
         ensures { Wrote (spell (Token.int n)) room.old self room.new result }
     {
         self.write_digits(room, n, b"")
     }
 
+    #[inline(always)]
     pub fn write_uint(self, room: &mut [u8], n: u64) -> Pen
         ensures { Wrote (spell (Token.uint n)) room.old self room.new result }
     {

@@ -2,10 +2,11 @@
 // functions again, TIGHT, OPEN and EXPORT too, and compares answers, parts that are handed back, and every byte of the room. Reading is total: what stands beyond a sample's end reads as nothing, and then the answers differ.
 #![tactic(auto)]
 
-ghost use Rattle.std.specs.Prelude.{◌≡◌, ◌&&◌, ◌||◌, ◌+◌, ◌*◌, ◌/◌, ◌%◌, eqb};
+ghost use Rattle.std.specs.Prelude.{◌≡◌, ◌&&◌, ◌||◌, ◌+◌, ◌*◌, ◌/◌, ◌%◌, eqb, min};
 ghost use Rattle.words.specs.Form.{same};
 ghost use Rattle.records.specs.Record.{name_at};
 ghost use Rattle.settings.specs.Bytes.{settings_bytes};
+ghost use Rattle.pen.specs.Sheet.{last_place};
 ghost use Rattle.glsl.specs.Printed.{Prints, refusal_number};
 ghost use Rattle.glsl.specs.Root.{value, print_outcome, root_text};
 ghost use Rattle.glsl.specs.Joined.{joined_number, joined_outcome};
@@ -106,6 +107,13 @@ impl Said {
     }
 }
 
+// Where n bytes from `at` on end, at most the greatest number.
+fn end_of(at: u32, n: u32) -> u32
+    ensures { result ≡ min (at + n) last_place }
+{
+    at.saturating_add(n)
+}
+
 // A case: the three records that begin it, and the parts behind them.
 #[derive(Clone, Copy)]
 struct Case<'a> {
@@ -123,10 +131,10 @@ impl<'a> Case<'a> {
         let head = records::part_of(sample, place, HEAD);
         let first = records::record_at(head, 0);
         let second = records::record_at(head, 1);
-        let settings_at = place.saturating_add(HEAD);
-        let tree_at = settings_at.saturating_add(first.a);
-        let names_at = tree_at.saturating_add(first.b);
-        let after_at = names_at.saturating_add(second.a);
+        let settings_at = end_of(place, HEAD);
+        let tree_at = end_of(settings_at, first.a);
+        let names_at = end_of(tree_at, first.b);
+        let after_at = end_of(names_at, second.a);
         let case = Case {
             first,
             second,
@@ -138,7 +146,7 @@ impl<'a> Case<'a> {
             },
             after: records::part_of(sample, after_at, second.b),
         };
-        (case, after_at.saturating_add(second.b))
+        (case, end_of(after_at, second.b))
     }
 
     // What the print answered.

@@ -40,8 +40,18 @@ fn copy_few(room: &mut [u8], at: usize, src: &[u8])
     }
 }
 
-// The bytes of `src` from `at` on, where they are known to fit. Most tokens have few.
-#[tactic(auto, using(crate::proofs::Loops::put_there))]
+// The bytes of `src` from `at` on, where they are known to fit. (A loop, which compiles to `memcpy`: `copy_from_slice` becomes `memmove`, a name that libglsl.a would need besides.)
+fn copy_many(room: &mut [u8], at: usize, src: &[u8])
+    requires { at + length src.now ≤ length room.old }
+    ensures { room.new ≡ sets room.old at src.now }
+{
+    for j in 0..src.len() {
+        room[at + j] = src[j];
+    }
+}
+
+// The bytes of `src` from `at` on, where they are known to fit. Most tokens have few. (This and `lay` are put into their callers: docs/SPEED.md, "The look back".)
+#[inline(always)]
 pub fn copy(room: &mut [u8], at: usize, src: &[u8])
     requires { at + length src.now ≤ length room.old }
     ensures { room.new ≡ sets room.old at src.now }
@@ -50,7 +60,7 @@ pub fn copy(room: &mut [u8], at: usize, src: &[u8])
     match n {
         0 => {}
         1..=FEW => copy_few(room, at, src),
-        _ => room[at..at + n].copy_from_slice(src),
+        _ => copy_many(room, at, src),
     }
 }
 
@@ -64,6 +74,7 @@ pub fn fill(room: &mut [u8], at: usize, byte: u8, n: usize)
 }
 
 // The bytes of `src`, if they fit.
+#[inline(always)]
 #[tactic(auto, using(crate::proofs::Laid::laid_fits, crate::proofs::Laid::laid_out))]
 pub fn lay(room: &mut [u8], at: u32, src: &[u8])
     ensures { room.new ≡ laid room.old at src.now }

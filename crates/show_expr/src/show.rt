@@ -355,8 +355,9 @@ fn unary(src: &Source, room: &mut [u8], pen: Pen, v: u8) -> Pen
     expr(src, room, op, most)
 }
 
-// In show_expr: Binary.
+// In show_expr: Binary. (Put into `bare`, and so into `expr`: docs/SPEED.md, "The look back".)
 #[cycle(printers)]
+#[inline(always)]
 fn binary(src: &Source, room: &mut [u8], pen: Pen, v: u8) -> Pen
     ensures { ShowsOf show_expr (give (Expr.Binary (binary_op_of v)) and Reading.expr and Reading.expr) src.now room.old pen room.new result }
 {

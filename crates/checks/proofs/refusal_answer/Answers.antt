@@ -1,7 +1,6 @@
 -- `checks::refusal_answer` meets its contract: a sum below 2^63 is turned safely. Assumes nothing.
 use mathlib.Core.Path.{◌≡◌, sym, ◌∙◌, ap, subst}
-use Prim.Native.Nat.{ℕ, ◌+◌, ◌*◌, ◌<◌, ◌^◌}
-use native.Mathlib.Omega.{arith}
+use Prim.Native.Nat.{ℕ, ◌<◌, ◌^◌}
 use lib.IntN.{ℤ, pos, neg_ℤ, ◌-ℤ◌, +ℤ_idl}
 use mir.Syntax.{w64}
 use mir.Val.{SFits, to_z, of_z}
@@ -12,15 +11,15 @@ use Rattle.checks.proofs.refusal_answer.Goals as goal
 
 pub overflow_sub-result : goal.overflow_sub-result
 overflow_sub-result c =
-    let n = c.from.result * 4294967296 + c.args.r.place in
-    let h : n < 2 ^ 63 = omega (arith, c.from.ensures.1, c.requires) in
+    let n = c.sum_of.result in
+    let h : n < 2 ^ 63 = c.sum_of.ensures.1 in
     let f : pos 0 -ℤ to_z w64 n ≡ neg_ℤ (pos n) = ap (λ (z : ℤ). pos 0 -ℤ z) (to_z_pos w64 {n = n} h) ∙ +ℤ_idl (neg_ℤ (pos n)) in
     subst (SFits w64) (sym f) (minus_fits n h)
 
 pub returns : goal.returns
 unfolding refusal_answer
 returns c =
-    let n = c.from.result * 4294967296 + c.args.r.place in
-    let h : n < 2 ^ 63 = omega (arith, c.from.ensures.1, c.requires) in
+    let n = c.sum_of.result in
+    let h : n < 2 ^ 63 = c.sum_of.ensures.1 in
     let f : pos 0 -ℤ to_z w64 n ≡ neg_ℤ (pos n) = ap (λ (z : ℤ). pos 0 -ℤ z) (to_z_pos w64 {n = n} h) ∙ +ℤ_idl (neg_ℤ (pos n)) in
-    ap (λ (z : ℤ). to_z w64 (of_z w64 z)) f ∙ to_z-of_z (minus_fits n h) ∙ ap (λ (k : ℕ). neg_ℤ (pos (k * 4294967296 + c.args.r.place))) c.from.ensures.0
+    ap (λ (z : ℤ). to_z w64 (of_z w64 z)) f ∙ to_z-of_z (minus_fits n h) ∙ ap (λ (k : ℕ). neg_ℤ (pos k)) c.sum_of.ensures.0
